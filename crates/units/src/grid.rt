@@ -1,0 +1,78 @@
+// The three price grids: a step below the turn, and a step from the turn on.
+use crate::Cents;
+ghost use mathlib.Core.Path.{_≡_};
+ghost use Rattle.units.specs.Grid.{stepping, gridOf, lowestOf, stepOf, onGrid};
+
+// A grid is its two steps, so one proof over the steps serves all three.
+pub struct Grid {
+    pub low: Cents,
+    pub high: Cents,
+}
+
+// The grid of a number, or none: only 1, 2 and 3 are grids.
+pub enum Chosen {
+    One(Grid),
+    NoSuch,
+}
+
+impl Grid {
+    // From this price on, in cents, the higher step holds.
+    pub const TURN: u32 = 300;
+
+    pub const CENT: u32 = 1;
+
+    pub const NICKEL: u32 = 5;
+
+    pub const DIME: u32 = 10;
+
+    // The grid with a step below the turn and a step from it on.
+    fn stepping(low: u32, high: u32) -> Grid
+        ensures { λ r. ⌜ r ≡ stepping low high ⌝ }
+    {
+        Grid {
+            low: Cents(low),
+            high: Cents(high),
+        }
+    }
+
+    // The grid of a number.
+    pub fn of(number: u32) -> Chosen
+        ensures { λ r. ⌜ r ≡ gridOf number ⌝ }
+    {
+        match number {
+            1 => Chosen::One(Grid::stepping(Grid::CENT, Grid::CENT)),
+            2 => Chosen::One(Grid::stepping(Grid::CENT, Grid::NICKEL)),
+            3 => Chosen::One(Grid::stepping(Grid::NICKEL, Grid::DIME)),
+            _ => Chosen::NoSuch,
+        }
+    }
+
+    // The lowest step of the grid, at which a converted order rests.
+    pub fn lowest(self) -> Cents
+        ensures { λ r. ⌜ r ≡ lowestOf self ⌝ }
+    {
+        self.low
+    }
+
+    // The step at a price.
+    pub fn step(self, price: Cents) -> Cents
+        ensures { λ r. ⌜ r ≡ stepOf self price ⌝ }
+    {
+        if price.0 < Self::TURN {
+            self.low
+        } else {
+            self.high
+        }
+    }
+
+    // Whether the step at the price divides it; a step of 0 divides 0 alone.
+    pub fn on(self, price: Cents) -> bool
+        ensures { λ r. ⌜ r ≡ onGrid self price ⌝ }
+    {
+        let by = self.step(price).0;
+        if by == 0 {
+            return price.0 == 0;
+        }
+        price.0 % by == 0
+    }
+}
