@@ -1,0 +1,1 @@
+-- The demands on the market, as theorems.

@@ -1,0 +1,9 @@
+-- How one entry is judged: the rules of document 01 as definitions.
+pub mod Numbers
+pub mod Settings
+pub mod Entry
+pub mod Quotes
+pub mod TurnDown
+pub mod Bound
+pub mod Disposition
+pub mod Verdict

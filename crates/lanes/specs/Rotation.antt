@@ -1,0 +1,26 @@
+-- The rotation: the first non-empty lane at or after the place, in order 0 to 8 and round again.
+use mathlib.Core.Bool.{Bool}
+use Prim.Native.Nat.{ℕ, _+_, _%_}
+use lib.Dec.{ltb}
+use Rattle.units.specs.Tests.{pick}
+use Rattle.units.specs.Firsts.{firstTo}
+use Rattle.lanes.specs.declared.Lanes.{Lanes}
+use Rattle.lanes.specs.declared.Served.{Served}
+use Rattle.lanes.specs.declared.Served.the-variants.{Lane, Nobody}
+use Rattle.lanes.specs.Ring.{tenants, lenOf}
+
+-- the lane d places on
+abbrev pub on : ℕ → ℕ → ℕ
+on place d = (place + d) % tenants
+
+-- an entry waits in lane t
+abbrev pub waits : Lanes → ℕ → Bool
+waits l t = ltb 0 (lenOf l t)
+
+-- how many places on the first non-empty lane is; nine where no lane has an entry
+unfoldable pub distance : (ℕ → Bool) → ℕ → ℕ
+distance busy place = firstTo (λ d. busy (on place d)) tenants
+
+-- the lane that a turn serves
+unfoldable pub served : Lanes → Served
+served l = pick (ltb (distance (waits l) (l .place)) tenants) (Lane (on (l .place) (distance (waits l) (l .place)))) Nobody

@@ -1,0 +1,27 @@
+// Nine lanes of 64 entries, one for each tenant, and the rotation among them. A lane is a ring: its entries stay where they were put, and its
+// head moves.
+
+// The tenants, 0 to 8, and so the lanes.
+pub const TENANTS: usize = 9;
+
+// The entries that a lane holds.
+pub const DEPTH: usize = 64;
+
+// The numbers of an entry.
+pub const NUMBERS: usize = 6;
+
+// The entries of all lanes, as plain numbers: lane by lane, 64 entries to a lane, six numbers to an entry.
+pub type Entries = [u32; 3456];
+
+// Where each lane's oldest entry stands in its ring, how many wait in it, and the rotation's place.
+pub struct Lanes {
+    pub heads: [u32; 9],
+    pub lens: [u32; 9],
+    pub place: usize,
+}
+
+// The lane that the next turn serves.
+pub enum Served {
+    Lane(usize),
+    Nobody,
+}

@@ -1,0 +1,24 @@
+-- A market: a session with the columns of its book and its lanes' entries. Calls, and the numbers they answer.
+use mathlib.Core.Bool.{Bool}
+use mathlib.Core.List.{List, []}
+use Prim.Native.Nat.{ℕ}
+use Rattle.units.specs.Tests.{isNot}
+use Rattle.units.specs.Cases.{Case, _when_}
+use Rattle.rows.specs.Rows.{rows}
+use Rattle.book.specs.Book.{Book}
+use Rattle.session.specs.declared.Session.{Session}
+
+pub record Market : Type 0 where
+  pub session : Session
+  pub book : Book
+  -- the numbers of all lanes' entries
+  pub entries : List ℕ
+
+-- what settings, away and submit make of a market, and what they answer: 0, or the number of the refusal
+pub record Called : Type 0 where
+  pub market : Market
+  pub code : ℕ
+
+-- 21 no accepted settings yet: the first refusal of every call but settings
+abbrev pub unset : Market → Case
+unset m = 21 when isNot (m .session .accepted)

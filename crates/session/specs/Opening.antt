@@ -1,0 +1,105 @@
+-- The call open.
+use mathlib.Core.Bool.{Bool, true}
+use mathlib.Core.List.{List, [], _∷_}
+use Prim.Native.Nat.{ℕ}
+use lib.Dec.{ltb}
+use Rattle.units.specs.Units.{cents, contracts}
+use Rattle.units.specs.Tests.{_and_, pick}
+use Rattle.units.specs.Cases.{_when_, firstOf}
+use Rattle.rows.specs.Rows.{rows}
+use Rattle.book.specs.Book.{Book, crosses}
+use Rattle.book.specs.Trading.{ofTenant}
+use Rattle.book.specs.Opening.{volume, bought, sold, afterOpening, openingRecords, openingWritten}
+use Rattle.price.specs.declared.Sources.{Sources}
+use Rattle.price.specs.declared.Choice.{Choice}
+use Rattle.price.specs.Price.{priceOf, chosen, noneValid}
+use Rattle.session.specs.declared.Tally.{Tally}
+use Rattle.session.specs.declared.OpenAnswer.{OpenAnswer}
+use Rattle.session.specs.declared.OpenAnswer.the-variants as answer
+use Rattle.session.specs.Market.{Market, unset}
+use Rattle.session.specs.Tallies.{added}
+
+-- what an opening makes of a market and of the fill records lent to it, and what it answers
+pub record OpenDone : Type 0 where
+  pub market : Market
+  pub answer : OpenAnswer
+  pub records : List ℕ
+
+-- the paper's values: code, price, volume; a refused open has 0 for both
+pub record Line : Type 0 where
+  pub code : ℕ
+  pub price : ℕ
+  pub volume : ℕ
+
+abbrev pub printed : OpenAnswer → Line
+printed (answer.Refused code) = record { code = code; price = 0; volume = 0 }
+printed (answer.AtPrice price volume fills) = record { code = 0; price = price .0; volume = volume .0 }
+
+-- how many fill records an opening wrote
+abbrev pub fillsIn : OpenAnswer → ℕ
+fillsIn (answer.Refused code) = 0
+fillsIn (answer.AtPrice price volume fills) = fills
+
+-- NBB and NBO here are the away quote alone; the last print and the previous close are settings
+abbrev pub sourcesOf : Market → Sources
+sourcesOf m = record {
+  bid = m .session .away .bid;
+  offer = m .session .away .offer;
+  print = m .session .terms .print;
+  close = m .session .terms .close;
+}
+
+unfoldable pub choiceOf : Market → Choice
+choiceOf m = priceOf (sourcesOf m)
+
+-- the numbers in the order of checking: 9 already open, 6 fewer than 216 fill records lent, 20 no valid opening price, given in no other case than
+-- that some resting buy is at or above a resting sell
+unfoldable pub openRefusal : Market → ℕ → ℕ
+openRefusal m lent =
+    firstOf 0
+    (unset m
+    ∷ (9 when m .session .opened)
+    ∷ (6 when ltb lent rows)
+    ∷ (20 when crosses (m .book) and noneValid (choiceOf m))
+    ∷ [])
+
+-- the market once open, with another book and other tallies
+abbrev pub openedTo : Market → Book → List Tally → Market
+openedTo m book tallies = record {
+  session = record {
+    accepted = m .session .accepted;
+    terms = m .session .terms;
+    away = m .session .away;
+    opened = true;
+    lanes = m .session .lanes;
+    next = m .session .next;
+    tallies = tallies;
+  };
+  book = book;
+  entries = m .entries;
+}
+
+-- If no resting buy is at or above a resting sell, the series opens with price 0 and volume 0.
+unfoldable pub openQuiet : Market → List ℕ → OpenDone
+openQuiet m was = record {
+  market = openedTo m (m .book) (m .session .tallies);
+  answer = answer.AtPrice (cents 0) (contracts 0) 0;
+  records = was;
+}
+
+-- Otherwise it opens at the price chosen.
+unfoldable pub openAt : Market → List ℕ → ℕ → OpenDone
+openAt m was p = record {
+  market =
+      openedTo m (afterOpening (m .book) p)
+      (added (λ u. 0) (λ u. ofTenant (m .book) u (bought (m .book) p)) (λ u. ofTenant (m .book) u (sold (m .book) p)) (m .session .tallies));
+  answer = answer.AtPrice (cents p) (contracts (volume (m .book) p)) (openingRecords (m .book) p);
+  records = openingWritten (m .book) p was;
+}
+
+-- a refused open returns the number alone and alters nothing
+unfoldable pub openOf : Market → ℕ → List ℕ → OpenDone
+openOf m lent was =
+    pick (ltb 0 (openRefusal m lent))
+    (record { market = m; answer = answer.Refused (openRefusal m lent); records = was })
+    (pick (crosses (m .book)) (openAt m was (chosen (choiceOf m))) (openQuiet m was))

@@ -1,0 +1,75 @@
+-- What every reached market has.
+use mathlib.Core.Path.{_≡_}
+use mathlib.Core.Bool.{true, false}
+use mathlib.Core.List.{List, [], _∷_}
+use Prim.Native.Nat.{ℕ, _+_, _*_, _-_, _≤_, _<_}
+use lib.ListN.{length}
+use Rattle.units.specs.Sums.{sumTo}
+use Rattle.units.specs.Picked.{same}
+use Rattle.rows.specs.Rows.{highest}
+use Rattle.book.specs.Book.{Book, sideAt, sizeAt}
+use Rattle.book.specs.Sound.{SoundBook, Uncrossed}
+use Rattle.judge.specs.declared.Terms.{Terms}
+use Rattle.judge.specs.declared.Away.{Away}
+use Rattle.judge.specs.Numbers.{largest, lastNumber}
+use Rattle.judge.specs.Entry.{malformed}
+use Rattle.lanes.specs.declared.Lanes.{Lanes}
+use Rattle.lanes.specs.Ring.{tenants, depth, allEntries, headOf, lenOf, waitingAt}
+use Rattle.session.specs.declared.Session.{Session}
+use Rattle.session.specs.declared.Tally.{Tally}
+use Rattle.session.specs.Market.{Market}
+use Rattle.session.specs.Tallies.{turnsInAll, mostTurns}
+
+-- contracts bought in all, and sold
+unfoldable pub boughtInAll : List Tally → ℕ
+boughtInAll [] = 0
+boughtInAll (x ∷ xs) = x .bought + boughtInAll xs
+
+unfoldable pub soldInAll : List Tally → ℕ
+soldInAll [] = 0
+soldInAll (x ∷ xs) = x .sold + soldInAll xs
+
+-- contracts resting on a side
+unfoldable pub restingOn : Book → ℕ → ℕ
+restingOn b side = sumTo (same (sideAt b) side (sizeAt b)) (b .places)
+
+-- accepted terms are in range
+pub record SoundTerms (t : Terms) : Type 0 where
+  pub low-least : 1 ≤ t .grid .low .0
+  pub low-most : t .grid .low .0 ≤ highest
+  pub strike : t .strike .0 ≤ highest
+  pub drill : t .drill .0 ≤ highest
+  pub far : t .far .0 ≤ highest
+
+-- the lanes' marks lie within their rings, and what waits is well-formed
+pub record SoundLanes (l : Lanes) (entries : List ℕ) : Type 0 where
+  pub entries-long : length entries ≡ allEntries
+  pub heads-long : length (l .heads) ≡ tenants
+  pub lens-long : length (l .lens) ≡ tenants
+  pub head : (t : ℕ) → t < tenants → headOf l t < depth
+  pub len : (t : ℕ) → t < tenants → lenOf l t ≤ depth
+  pub place : l .place < tenants
+  pub formed : (t i : ℕ) → t < tenants → i < lenOf l t → malformed (waitingAt l entries t i) ≡ false
+
+-- contracts bought and resting to buy are within 999,999 for each number given, and so are those sold and resting to sell: no sum overflows
+pub record SoundTallies (m : Market) : Type 0 where
+  pub long : length (m .session .tallies) ≡ tenants
+  pub turns : turnsInAll (m .session .tallies) ≤ mostTurns
+  pub bought : boughtInAll (m .session .tallies) + restingOn (m .book) 1 ≤ largest * (m .session .next - 1)
+  pub sold : soldInAll (m .session .tallies) + restingOn (m .book) 2 ≤ largest * (m .session .next - 1)
+
+-- what a market has once settings are accepted
+pub record Held (m : Market) : Type 0 where
+  pub book : SoundBook (m .book) (m .session .next)
+  pub terms : SoundTerms (m .session .terms)
+  pub bid : m .session .away .bid .0 ≤ highest
+  pub offer : m .session .away .offer .0 ≤ highest
+  pub lanes : SoundLanes (m .session .lanes) (m .entries)
+  pub next-least : 1 ≤ m .session .next
+  pub next-most : m .session .next ≤ lastNumber + 1
+  pub tallies : SoundTallies m
+  pub uncrossed : m .session .opened ≡ true → Uncrossed (m .book)
+
+-- a session with no accepted settings is sound with any columns
+abbrev pub Sound : Market → Type 0
+Sound m = m .session .accepted ≡ true → Held m
