@@ -8,6 +8,7 @@ pub mod Cases
 pub mod CaseLaws
 pub mod Sums
 pub mod Picked
+pub mod Precedence
 pub mod Filling
 pub mod Counts
 pub mod Firsts
