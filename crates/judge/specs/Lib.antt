@@ -4,6 +4,8 @@ pub mod Settings
 pub mod Entry
 pub mod Quotes
 pub mod TurnDown
+pub mod WidthLaws
 pub mod Bound
 pub mod Disposition
 pub mod Verdict
+pub mod VerdictLaws
