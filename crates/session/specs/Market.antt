@@ -6,6 +6,7 @@ use Rattle.units.specs.Tests.{isNot}
 use Rattle.units.specs.Cases.{Case, _when_}
 use Rattle.rows.specs.Rows.{rows}
 use Rattle.book.specs.Book.{Book}
+use Rattle.session.specs.declared.Answered.{Answered}
 use Rattle.session.specs.declared.Session.{Session}
 
 pub record Market : Type 0 where
@@ -18,6 +19,14 @@ pub record Market : Type 0 where
 pub record Called : Type 0 where
   pub market : Market
   pub code : ℕ
+
+-- the market of a session, a book and the lanes' entries
+abbrev pub marketOf : Session → Book → List ℕ → Market
+marketOf s book entries = record { session = s; book = book; entries = entries }
+
+-- what a call answered, beside the book and the entries that it left
+abbrev pub answeredOf : Answered → Book → List ℕ → Called
+answeredOf r book entries = record { market = marketOf (r .session) book entries; code = r .code }
 
 -- 21 no accepted settings yet: the first refusal of every call but settings
 abbrev pub unset : Market → Case

@@ -1,4 +1,6 @@
 // The session: settings, away quote, book, lanes, rotation and tallies of one option series, and the five calls on it.
+pub mod settings;
+
 use judge::Away;
 use judge::Terms;
 use lanes::Lanes;

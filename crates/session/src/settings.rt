@@ -1,0 +1,83 @@
+// The calls settings and away.
+use crate::Answered;
+use crate::Session;
+use judge::Away;
+use judge::Settings;
+use judge::Terms;
+use judge::ranges::in_range;
+use judge::ranges::terms_of;
+use lanes::Entries;
+use lanes::Lanes;
+use rows::Column;
+use units::Cents;
+use units::grid::Chosen;
+use units::grid::Grid;
+ghost use mathlib.Core.Path.{_≡_};
+ghost use Rattle.book.specs.Book.{Book, bookOf};
+ghost use Rattle.session.specs.Market.{marketOf, answeredOf};
+ghost use Rattle.session.specs.Settings.{startedOn, noTerms, settingsOf};
+
+// A session on new terms: nothing rests, waits or is counted, the rotation is at tenant 0 and the series unopened.
+pub fn started(accepted: bool, terms: Terms) -> Session
+    ensures { λ r. ⌜ r ≡ startedOn accepted terms ⌝ }
+{
+    let away = Away {
+        bid: Cents(0),
+        offer: Cents(0),
+    };
+    let lanes = Lanes {
+        heads: [0u32; 9],
+        lens: [0u32; 9],
+        place: 0,
+    };
+    let tallies = tally::none();
+    Session {
+        accepted: accepted,
+        terms: terms,
+        away: away,
+        opened: false,
+        lanes: lanes,
+        next: 1,
+        tallies: tallies,
+    }
+}
+
+pub fn settings(
+    s: Session,
+    given: Settings,
+    sides: &mut Column,
+    prices: &mut Column,
+    sizes: &mut Column,
+    owners: &mut Column,
+    numbers: &mut Column,
+    entries: &mut Entries,
+) -> Answered
+    ensures { λ r. ⌜ answeredOf r (bookOf (now (sides .exit)) (now (prices .exit)) (now (sizes .exit)) (now (owners .exit)) (now (numbers .exit))) (now (entries .exit)) ≡ settingsOf (marketOf s (bookOf (now (sides .entry)) (now (prices .entry)) (now (sizes .entry)) (now (owners .entry)) (now (numbers .entry))) (now (entries .entry))) given ⌝ }
+{
+    let chosen = Grid::of(given.grid);
+    let Chosen::One(grid) = chosen else {
+        return Answered {
+            session: s,
+            code: 7,
+        };
+    };
+    if in_range(given) {
+        *sides = [0u32; 216];
+        *prices = [0u32; 216];
+        *sizes = [0u32; 216];
+        *owners = [0u32; 216];
+        *numbers = [0u32; 216];
+        *entries = [0u32; 3456];
+        let terms = terms_of(given, grid);
+        let after = started(true, terms);
+        Answered {
+            session: after,
+            code: 0,
+        }
+    } else {
+        Answered {
+            session: s,
+            code: 7,
+        }
+    }
+}
