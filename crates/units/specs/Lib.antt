@@ -14,4 +14,5 @@ pub mod Counts
 pub mod Firsts
 pub mod Leasts
 pub mod Places
+pub mod Listed
 pub mod Loops

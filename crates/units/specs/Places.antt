@@ -1,11 +1,11 @@
 -- Lists given place by place.
 use mathlib.Core.Path.{_≡_, refl, sym, _∙_}
 use mathlib.Core.List.{List, [], _∷_, _++_}
-use Prim.Native.Nat.{ℕ, zero, suc, _+_, _<_}
+use Prim.Native.Nat.{ℕ, zero, suc, _+_, _≤_, _<_}
 use native.Mathlib.Numerals.{add-one}
 use native.Mathlib.Omega.{arith}
-use lib.ListN.{length, getD, set, take, length-append, List·getD-append}
-use lib.Seq.{getD-append-seam, take-suc-set, take-all, ext-getD}
+use lib.ListN.{length, getD, set, take, length-append, length-set, List·getD-append}
+use lib.Seq.{getD-append-seam, getD-set-same, getD-set-other, take-suc-set, take-all, ext-getD, sets}
 use Rattle.units.specs.Tests.{order, less, equal, more}
 
 -- what stands at place i, and 0 past the end
@@ -52,3 +52,19 @@ table-is f l n h e = ext-getD 0 l (table f n) (h ∙ sym (table-length f n)) (λ
 -- tables of the same numbers are the same
 pub table-same : {f g : ℕ → ℕ} (n : ℕ) → ((i : ℕ) → i < n → f i ≡ g i) → table f n ≡ table g n
 table-same {f} {g} n h = table-is g (table f n) n (table-length f n) (λ i p. table-at f n i p ∙ h i p)
+
+-- a run of numbers vs stored from place i on: what stands outside it, and what stands in it
+pub sets-old : (vs l : List ℕ) (i m : ℕ) → (i ≤ m → m < i + length vs → ⊥) → at (sets l i vs) m ≡ at l m
+sets-old [] l i m out = refl
+sets-old (v ∷ vs) l i m out =
+    sets-old vs (set l i v) (suc i) m (λ a b. out (omega arith) (omega arith))
+    ∙ getD-set-other l i m v 0 (λ e. out (omega arith) (omega arith))
+
+pub sets-new : (vs l : List ℕ) (i r : ℕ) → r < length vs → i + length vs ≤ length l → at (sets l i vs) (i + r) ≡ at vs r
+sets-new [] l i r p h = absurd (omega arith)
+sets-new (v ∷ vs) l i zero p h =
+    let e : i + 0 ≡ i = omega arith in
+    rw e (sets-old vs (set l i v) (suc i) i (λ a b. omega arith) ∙ getD-set-same l i v 0 (omega arith))
+sets-new (v ∷ vs) l i (suc r) p h =
+    let e : i + suc r ≡ suc i + r = omega arith in
+    rw e (sets-new vs (set l i v) (suc i) r (omega arith) (omega (arith, length-set l i v)))
