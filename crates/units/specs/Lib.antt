@@ -6,6 +6,7 @@ pub mod GridLaws
 pub mod Tests
 pub mod Cases
 pub mod CaseLaws
+pub mod CaseBounds
 pub mod Sums
 pub mod Picked
 pub mod Filling
