@@ -1,4 +1,5 @@
 // The session: settings, away quote, book, lanes, rotation and tallies of one option series, and the five calls on it.
+pub mod away;
 pub mod settings;
 
 use judge::Away;
