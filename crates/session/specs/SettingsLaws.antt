@@ -16,7 +16,7 @@ use Rattle.judge.specs.declared.Terms.{Terms}
 use Rattle.judge.specs.Settings.{inRange, termsOf}
 use Rattle.lanes.specs.Ring.{allEntries}
 use Rattle.session.specs.declared.Session.{Session}
-use Rattle.session.specs.Market.{Market, Called}
+use Rattle.session.specs.Market.{Market, marketOf}
 use Rattle.session.specs.Settings.{startedOn, emptyBook, settingsOf, awayRefusal, withAway, awayOf}
 
 module _ (m : Market) (s : Settings) where
@@ -35,3 +35,12 @@ module _ (m : Market) (s : Settings) where
       record { market = record { session = after; book = emptyBook (m .book .places); entries = replicate allEntries 0 }; code = 0 } ≡ settingsOf m s
   unfolding settingsOf pick
   settings-accepted g t after p q h e f = rw (sym p ∙ q, h, f, e)
+
+module _ (m : Market) (bid offer : Cents) (code : ℕ) (is : code ≡ awayRefusal (m .session) bid offer) where
+  pub away-refused : 0 < code → record { market = m; code = code } ≡ awayOf m bid offer
+  unfolding awayOf pick
+  away-refused h = rw (← is, lt-ltb 0 code h)
+
+  pub away-accepted : code ≤ 0 → record { market = marketOf (withAway (m .session) bid offer) (m .book) (m .entries); code = 0 } ≡ awayOf m bid offer
+  unfolding awayOf pick
+  away-accepted h = rw (← is, le-ltb 0 code h)

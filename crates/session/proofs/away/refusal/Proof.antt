@@ -1,0 +1,10 @@
+-- `session::away::refusal` meets its contract: the calls are the words of the rule.
+use borrow.Author.Needs.{needs}
+use Rattle.session.specs.Settings.{awayRefusal}
+use Rattle.session.proofs.away.refusal.Statement.{statement}
+use Rattle.session.proofs.away.refusal.Tie as tie
+
+pub refusal-spec : {M : Type 1} → statement M
+unfolding awayRefusal
+refusal-spec =
+    tie.close (tie.spec (λ c κs. search needs) (λ c κs. search needs) (λ c κs. search needs) (λ c κs. search needs) (λ c. cc))
