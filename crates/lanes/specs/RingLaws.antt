@@ -1,5 +1,5 @@
 -- Where entries stand in the rings, and what storing a bulk of them changes.
-use mathlib.Core.Path.{_≡_, refl, sym, _∙_}
+use mathlib.Core.Path.{_≡_, refl, _∙_}
 use mathlib.Core.Logic.{_≢_}
 use mathlib.Core.List.{List, [], _∷_}
 use Prim.Native.Nat.{ℕ, zero, suc, _+_, _*_, _%_, _≤_, _<_}
@@ -9,7 +9,6 @@ use lib.ListN.{length, length-set}
 use lib.Seq.{sets}
 use Rattle.units.specs.Places.{at, sets-old, sets-new}
 use Rattle.units.specs.Tests.{order, less, equal, more}
-use Rattle.judge.specs.declared.Entry.{Entry}
 use Rattle.lanes.specs.declared.Lanes.{Lanes}
 use Rattle.lanes.specs.Ring.{tenants, depth, allEntries, entryAt, headOf, lenOf, slot, put, putAll}
 

@@ -7,8 +7,6 @@ use Rattle.lanes.specs.Ring.{putAll}
 use Rattle.lanes.specs.RingLaws.{slot-within, put-all-none, put-all-next, put-all-length}
 use Rattle.lanes.proofs.ring.put_all.Statement.{statement}
 use Rattle.lanes.proofs.ring.put_all.Tie as tie
-use Rattle.lanes.proofs.ring.put_all.Reads as reads
-use Rattle.lanes.proofs.ring.put_all.Lts as lts
 
 abbrev Inv-loop : tie.InvT-loop
 Inv-loop entries₀ t ns count l len j₀ entries j = (j ≤ count) × (entries ≡ putAll l entries₀ t ns j)
