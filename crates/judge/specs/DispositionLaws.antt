@@ -4,10 +4,9 @@ use mathlib.Core.Logic.{_↔_}
 use mathlib.Core.Bool.{true, false}
 use Prim.Native.Nat.{ℕ, _+_, _-_, _≤_, _<_}
 use lib.ListN.{take}
-use native.Mathlib.Omega.{arith}
 use borrow.Author.Tests.{ltb-false, leb-false}
 use Rattle.units.specs.declared.Contracts.{Contracts}
-use Rattle.units.specs.Tests.{_and_, _or_, and-holds, and-false, or-false}
+use Rattle.units.specs.Tests.{and-holds, and-false, or-false}
 use Rattle.units.specs.CaseLaws.{caseAt, none, apart, given, given-none, none-at}
 use Rattle.judge.specs.declared.Entry.{Entry}
 use Rattle.judge.specs.declared.Quotes.{Quotes}
