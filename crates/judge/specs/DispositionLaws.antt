@@ -35,9 +35,9 @@ module _ (e : Entry) (q : Quotes) (t : Terms) (left : Contracts) where
     passed : (i : ℕ) → caseAt (dispositions e q t left) i .test ≡ false
     passed i = none-at (dispositions e q t left) i (rests-by .0 rests)
 
-    -- an order that rests is neither a market order nor now
-    pub rests-limit-day : (isMarket e ≡ false) × (isNow e ≡ false)
-    rests-limit-day = or-false (isMarket e) (isNow e) (passed 1)
+    -- an order that rests is neither a market order nor for now
+    pub rests-day-limit : (isMarket e ≡ false) × (isNow e ≡ false)
+    rests-day-limit = or-false (isMarket e) (isNow e) (passed 1)
 
     -- its limit is not beyond the drill price
     pub within-drill-buy : isBuy e ≡ true → present (q .nbo) ≡ true → e .price .0 ≤ q .nbo .0 + t .drill .0
