@@ -22,7 +22,7 @@ use Rattle.judge.specs.EntryLaws.{Proper, day-limit-might-rest, new-prop
 use Rattle.judge.specs.TurnDown.{asJudged, mightRest}
 use Rattle.judge.specs.Bound.{buyBars, sellBars, buyBound, sellBound, boundOf}
 use Rattle.judge.specs.Disposition.{dispositionOf}
-use Rattle.judge.specs.DispositionLaws.{rests-limit-day, within-drill-buy, within-drill-sell, short-of-offer, short-of-bid}
+use Rattle.judge.specs.DispositionLaws.{rests-day-limit, within-drill-buy, within-drill-sell, short-of-offer, short-of-bid}
 
 module _ (e : Entry) (q : Quotes) (t : Terms) where
   buy-is : isBuy e ≡ true → boundOf e q t .0 ≡ leastOf highest (buyBars e q t)
@@ -58,7 +58,7 @@ module _ (e : Entry) (q : Quotes) (t : Terms) where
         (lower-above _ _ _ _ (λ _. le-refl _)
         (lower-above _ _ _ _ (λ h. omega (arith, short-of-offer e q t left rests b h))
         (lower-above _ _ _ _ (within-drill-buy e q t left rests b)
-        (lower-above _ _ _ _ (λ h. absurd (holds-not-fails (and-true _ _ h .0) (rests-limit-day e q t left rests .0))) high)))))
+        (lower-above _ _ _ _ (λ h. absurd (holds-not-fails (and-true _ _ h .0) (rests-day-limit e q t left rests .0))) high)))))
 
     pub sell-rests : isSell e ≡ true → isLimit e ≡ true → 1 ≤ e .price .0 → boundOf e q t .0 ≡ e .price .0
     sell-rests s l low = le-antisymm
@@ -74,7 +74,7 @@ module _ (e : Entry) (q : Quotes) (t : Terms) where
     module _ (p : Proper e) where
       -- an order that rests is a limit for the day
       pub rests-might : mightRest e ≡ true
-      rests-might = let n = rests-limit-day e q t left rests in day-limit-might-rest e p (n .0) (n .1)
+      rests-might = let n = rests-day-limit e q t left rests in day-limit-might-rest e p (n .0) (n .1)
 
       rests-limit : isLimit e ≡ true
       unfolding mightRest

@@ -4,10 +4,9 @@ use mathlib.Core.Logic.{_↔_}
 use mathlib.Core.Bool.{true, false}
 use Prim.Native.Nat.{ℕ, _+_, _-_, _≤_, _<_}
 use lib.ListN.{take}
-use native.Mathlib.Omega.{arith}
 use borrow.Author.Tests.{ltb-false, leb-false}
 use Rattle.units.specs.declared.Contracts.{Contracts}
-use Rattle.units.specs.Tests.{_and_, _or_, and-holds, and-false, or-false}
+use Rattle.units.specs.Tests.{and-holds, and-false, or-false}
 use Rattle.units.specs.CaseLaws.{caseAt, none, apart, given, given-none, none-at}
 use Rattle.judge.specs.declared.Entry.{Entry}
 use Rattle.judge.specs.declared.Quotes.{Quotes}
@@ -36,9 +35,9 @@ module _ (e : Entry) (q : Quotes) (t : Terms) (left : Contracts) where
     passed : (i : ℕ) → caseAt (dispositions e q t left) i .test ≡ false
     passed i = none-at (dispositions e q t left) i (rests-by .0 rests)
 
-    -- an order that rests is neither a market order nor now
-    pub rests-limit-day : (isMarket e ≡ false) × (isNow e ≡ false)
-    rests-limit-day = or-false (isMarket e) (isNow e) (passed 1)
+    -- an order that rests is neither a market order nor for now
+    pub rests-day-limit : (isMarket e ≡ false) × (isNow e ≡ false)
+    rests-day-limit = or-false (isMarket e) (isNow e) (passed 1)
 
     -- its limit is not beyond the drill price
     pub within-drill-buy : isBuy e ≡ true → present (q .nbo) ≡ true → e .price .0 ≤ q .nbo .0 + t .drill .0

@@ -2,10 +2,10 @@
 use mathlib.Core.Path.{_≡_, refl}
 use mathlib.Core.Logic.{_⊎_, inl, inr, ⊎-elim}
 use mathlib.Core.Bool.{Bool, true, false}
-use Prim.Native.Nat.{ℕ, _≤_}
+use Prim.Native.Nat.{_≤_}
 use native.Mathlib.Omega.{arith}
-use lib.Dec.{leb, eqb}
-use borrow.Author.Tests.{leb-true, eqb-true}
+use lib.Dec.{eqb}
+use borrow.Author.Tests.{eqb-true}
 use Rattle.units.specs.Grid.{lowestOf}
 use Rattle.units.specs.Tests.{_and_, pick-yes, pick-no, and-true, and-holds, or-true, or-first, not-false}
 use Rattle.rows.specs.Rows.{highest}
@@ -13,6 +13,7 @@ use Rattle.judge.specs.declared.Entry.{Entry}
 use Rattle.judge.specs.declared.Quotes.{Quotes}
 use Rattle.judge.specs.declared.Terms.{Terms}
 use Rattle.judge.specs.Numbers.{largest, oneOrTwo, from1to}
+use Rattle.judge.specs.NumberLaws.{from1to-bounds}
 use Rattle.judge.specs.Entry.{isLimit, isMarket, isCancel, isBuy, isSell, isDay, isNow, priced, newOrder, cancelling, malformed}
 use Rattle.judge.specs.TurnDown.{unbid, converts, asJudged, mightRest}
 
@@ -36,34 +37,35 @@ pub record Proper (e : Entry) : Type 0 where
   pub size-least : 1 ≤ e .size .0
   pub size-most : e .size .0 ≤ largest
 
-from1to-bounds : (most n : ℕ) → from1to most n ≡ true → (1 ≤ n) × (n ≤ most)
-unfolding from1to
-from1to-bounds most n h = let p = and-true (leb 1 n) _ h in (leb-true 1 n (p .0), leb-true n most (p .1))
-
 -- a limit is no market order
-pub not-both : (e : Entry) → isLimit e ≡ true → isMarket e ≡ true → ⊥
+not-both : (e : Entry) → isLimit e ≡ true → isMarket e ≡ true → ⊥
 not-both e l m = let a = eqb-true (e .kind) 1 l in let b = eqb-true (e .kind) 2 m in omega arith
+
+-- it has a price in range, or is a market order
+priced-as : (e : Entry) → priced e ≡ true → ((isLimit e ≡ true) × (from1to highest (e .price .0) ≡ true)) ⊎ (isMarket e ≡ true)
+unfolding priced
+priced-as e h = ⊎-elim
+    (λ (p : (isLimit e and from1to highest (e .price .0)) ≡ true). inl (and-true (isLimit e) _ p))
+    (λ (p : (isMarket e and eqb (e .price .0) 0) ≡ true). inr (and-true (isMarket e) _ p .0))
+    (or-true _ _ h)
+
+limit-bounds : (e : Entry) → priced e ≡ true → isLimit e ≡ true → (1 ≤ e .price .0) × (e .price .0 ≤ highest)
+limit-bounds e h l = ⊎-elim (λ p. from1to-bounds highest (e .price .0) (p .1)) (λ m. absurd (not-both e l m)) (priced-as e h)
 
 -- a well-formed new order is proper
 pub new-proper : (e : Entry) → newOrder e ≡ true → Proper e
-unfolding newOrder priced oneOrTwo
+unfolding newOrder oneOrTwo
 new-proper e h =
     let (front, back) = and-true (priced e and (oneOrTwo (e .side) and oneOrTwo (e .life))) _ h in
     let (price, marks) = and-true (priced e) _ front in
     let (side, life) = and-true (oneOrTwo (e .side)) _ marks in
     let size = from1to-bounds largest (e .size .0) (and-true (from1to largest (e .size .0)) _ back .0) in
-    let limit : isLimit e ≡ true → (1 ≤ e .price .0) × (e .price .0 ≤ highest) = λ l. ⊎-elim
-        (λ (p : (isLimit e and from1to highest (e .price .0)) ≡ true). from1to-bounds highest (e .price .0) (and-true (isLimit e) _ p .1))
-        (λ (p : (isMarket e and eqb (e .price .0) 0) ≡ true). absurd (not-both e l (and-true (isMarket e) _ p .0)))
-        (or-true _ _ price) in
     record {
       sided = or-true _ _ side;
       lived = or-true _ _ life;
-      kinded = ⊎-elim (λ (p : (isLimit e and from1to highest (e .price .0)) ≡ true). inl (and-true (isLimit e) _ p .0))
-          (λ (p : (isMarket e and eqb (e .price .0) 0) ≡ true). inr (and-true (isMarket e) _ p .0))
-          (or-true _ _ price);
-      price-least = λ l. limit l .0;
-      price-most = λ l. limit l .1;
+      kinded = ⊎-elim (λ p. inl (p .0)) inr (priced-as e price);
+      price-least = λ l. limit-bounds e price l .0;
+      price-most = λ l. limit-bounds e price l .1;
       size-least = size .0;
       size-most = size .1;
     }
@@ -75,7 +77,7 @@ side-bounds e p = ⊎-elim
     (λ (s : isSell e ≡ true). let k = eqb-true (e .side) 2 s in (omega arith, omega arith))
     (p .sided)
 
--- one that is neither a market order nor now might rest
+-- one that is neither a market order nor for now might rest
 pub day-limit-might-rest : (e : Entry) → Proper e → isMarket e ≡ false → isNow e ≡ false → mightRest e ≡ true
 unfolding mightRest
 day-limit-might-rest e p m n = and-holds _ _ (or-first (p .kinded) m) (or-first (p .lived) n)

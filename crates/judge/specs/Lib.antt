@@ -7,6 +7,8 @@ pub mod TurnDown
 pub mod Bound
 pub mod Disposition
 pub mod Verdict
+pub mod NumberLaws
+pub mod SettingsLaws
 pub mod WidthLaws
 pub mod EntryLaws
 pub mod TurnDownLaws

@@ -5,7 +5,7 @@ use mathlib.Core.Bool.{true, false}
 use Prim.Native.Nat.{ℕ, _≤_, _<_}
 use lib.ListN.{take}
 use borrow.Author.Tests.{ltb-false, leb-false}
-use Rattle.units.specs.Tests.{_and_, _or_, isNot, pick, and-false, or-false, not-fails}
+use Rattle.units.specs.Tests.{_and_, pick, and-false, or-false, not-fails}
 use Rattle.units.specs.CaseLaws.{caseAt, none, apart, given, given-none, none-at}
 use Rattle.rows.specs.Rows.{rowsATenant}
 use Rattle.judge.specs.declared.Entry.{Entry}

@@ -26,6 +26,7 @@ use Rattle.judge.specs.BoundLaws.{judged-rests}
 use Rattle.judge.specs.Disposition.{dispositionOf}
 use Rattle.judge.specs.Verdict.{verdict}
 
+-- the verdict, from its number, the order as judged and its bound
 module _ (e : Entry) (q : Quotes) (t : Terms) (s : Standing) (n : ℕ) (number : n ≡ turnDown e q t s) where
   pub turned-down : 0 < n → TurnedDown n ≡ verdict e q t s
   unfolding pick verdict

@@ -27,6 +27,7 @@ fn buy_bound(e: Entry, q: Quotes, t: Terms) -> u32
     lower(e.kind == LIMIT, wide(e.price), away)
 }
 
+// NBB less the buffer counts only where a price is left of it.
 fn sell_bound(e: Entry, q: Quotes, t: Terms) -> u32
     ensures { λ r. ⌜ r ≡ sellBound e q t ⌝ }
 {

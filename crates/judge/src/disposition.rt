@@ -16,6 +16,7 @@ use units::Contracts;
 ghost use mathlib.Core.Path.{_≡_};
 ghost use Rattle.judge.specs.Disposition.{beyondDrill, atAway, dispositionOf};
 
+// 3: a limit beyond the drill price, further through the market than the order was let trade.
 fn beyond_drill(e: Entry, q: Quotes, t: Terms) -> bool
     ensures { λ r. ⌜ r ≡ beyondDrill e q t ⌝ }
 {
@@ -31,6 +32,7 @@ fn beyond_drill(e: Entry, q: Quotes, t: Terms) -> bool
     )
 }
 
+// 4: a limit that would lock or cross the quote of another market.
 fn at_away(e: Entry, q: Quotes) -> bool
     ensures { λ r. ⌜ r ≡ atAway e q ⌝ }
 {

@@ -5,26 +5,15 @@ use crate::LIMIT;
 use crate::MARKET;
 use crate::words::both;
 use crate::words::either;
+use crate::words::from_one_to;
 use crate::words::is_not;
+use crate::words::one_or_two;
 use rows::HIGHEST;
 ghost use mathlib.Core.Path.{_≡_};
-ghost use Rattle.judge.specs.Numbers.{oneOrTwo, from1to};
 ghost use Rattle.judge.specs.Entry.{priced, newOrder, cancelling, malformed};
 
 // The largest size, in contracts.
-pub const LARGEST: u32 = 999999;
-
-pub fn one_or_two(n: u32) -> bool
-    ensures { λ r. ⌜ r ≡ oneOrTwo n ⌝ }
-{
-    either(n == 1, n == 2)
-}
-
-pub fn from_one_to(most: u32, n: u32) -> bool
-    ensures { λ r. ⌜ r ≡ from1to most n ⌝ }
-{
-    both(1 <= n, n <= most)
-}
+const LARGEST: u32 = 999999;
 
 // A limit has a price, a market order none.
 fn priced(e: Entry) -> bool

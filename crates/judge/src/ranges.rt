@@ -1,18 +1,18 @@
 // The settings: their ranges, and what accepted ones say.
 use crate::Settings;
 use crate::Terms;
-use crate::form::from_one_to;
-use crate::form::one_or_two;
 use crate::words::both;
+use crate::words::from_one_to;
+use crate::words::one_or_two;
 use rows::HIGHEST;
 use units::grid::Grid;
 ghost use mathlib.Core.Path.{_≡_};
 ghost use Rattle.judge.specs.Settings.{seriesInRange, protectionsInRange, printsInRange, inRange, termsOf};
 
-pub const PUT: u32 = 2;
+const PUT: u32 = 2;
 
 // The greatest width percent.
-pub const MOST_PERCENT: u32 = 1000;
+const MOST_PERCENT: u32 = 1000;
 
 // The series: how it allocates, call or put, and its strike.
 fn series_in_range(s: Settings) -> bool
@@ -37,6 +37,7 @@ fn protections_in_range(s: Settings) -> bool
     )
 }
 
+// The last print and the previous close, 0 where there is none.
 fn prints_in_range(s: Settings) -> bool
     ensures { λ r. ⌜ r ≡ printsInRange s ⌝ }
 {

@@ -24,26 +24,29 @@ ghost use Rattle.units.specs.Cases.{firstOf};
 ghost use Rattle.judge.specs.TurnDown.{notYet, offGrid, atStrike, noOffer, unbid, noBid, converts, asJudged, abovePercent, tooWide, farBuy, farSell, farPrice, mightRest, noRoom, usedUp, turnDowns, turnDown};
 
 // Without a bid, a market sell is converted where the offer is at most this, in cents.
-pub const LOW_OFFER: u32 = 50;
+const LOW_OFFER: u32 = 50;
 
 // A width is never above this percentage of the mean of the two quotes.
-pub const WIDEST_PERCENT: u32 = 200;
+const WIDEST_PERCENT: u32 = 200;
 
 // The last order number.
-pub const LAST_NUMBER: u64 = 4294967295;
+const LAST_NUMBER: u64 = 4294967295;
 
+// 10: before the opening nothing trades, so market orders and orders for now have no use.
 fn not_yet(e: Entry, s: Standing) -> bool
     ensures { λ r. ⌜ r ≡ notYet e s ⌝ }
 {
     both(is_not(s.opened), either(e.kind == MARKET, e.life == NOW))
 }
 
+// 11: a limit that the step at its price does not divide.
 fn off_grid(e: Entry, t: Terms) -> bool
     ensures { λ r. ⌜ r ≡ offGrid e t ⌝ }
 {
     both(e.kind == LIMIT, is_not(t.grid.on(e.price)))
 }
 
+// 12: a put is worth less than its strike, so no buy limit is to reach it.
 fn at_strike(e: Entry, t: Terms) -> bool
     ensures { λ r. ⌜ r ≡ atStrike e t ⌝ }
 {
@@ -53,6 +56,7 @@ fn at_strike(e: Entry, t: Terms) -> bool
     )
 }
 
+// 13: a market buy that meets no offer.
 fn no_offer(e: Entry, q: Quotes) -> bool
     ensures { λ r. ⌜ r ≡ noOffer e q ⌝ }
 {
@@ -66,12 +70,14 @@ fn unbid(e: Entry, q: Quotes) -> bool
     both(both(e.kind == MARKET, e.side == SELL), q.nbb.0 == 0)
 }
 
+// 14: a market sell that meets no bid, under an offer too high to sell at the lowest step.
 fn no_bid(e: Entry, q: Quotes) -> bool
     ensures { λ r. ⌜ r ≡ noBid e q ⌝ }
 {
     both(unbid(e, q), LOW_OFFER < q.nbo.0)
 }
 
+// The other half of 14: under a low offer the sell is worth the lowest step.
 fn converts(e: Entry, q: Quotes) -> bool
     ensures { λ r. ⌜ r ≡ converts e q ⌝ }
 {
@@ -110,6 +116,7 @@ fn above_percent(nbb: Cents, nbo: Cents, percent: u32) -> bool
     }
 }
 
+// 15: the market is too wide for an order without a price.
 fn too_wide(e: Entry, q: Quotes, t: Terms) -> bool
     ensures { λ r. ⌜ r ≡ tooWide e q t ⌝ }
 {
@@ -126,6 +133,7 @@ fn too_wide(e: Entry, q: Quotes, t: Terms) -> bool
     )
 }
 
+// A buy limit further above the NBO than the buffer.
 fn far_buy(e: Entry, q: Quotes, t: Terms) -> bool
     ensures { λ r. ⌜ r ≡ farBuy e q t ⌝ }
 {
@@ -135,6 +143,7 @@ fn far_buy(e: Entry, q: Quotes, t: Terms) -> bool
     )
 }
 
+// A sell limit further below the NBB than the buffer.
 fn far_sell(e: Entry, q: Quotes, t: Terms) -> bool
     ensures { λ r. ⌜ r ≡ farSell e q t ⌝ }
 {
@@ -144,6 +153,7 @@ fn far_sell(e: Entry, q: Quotes, t: Terms) -> bool
     )
 }
 
+// 16: a limit so far through the market that it is taken for a slip; asked only once there is a market.
 fn far_price(e: Entry, q: Quotes, t: Terms, s: Standing) -> bool
     ensures { λ r. ⌜ r ≡ farPrice e q t s ⌝ }
 {
@@ -153,18 +163,21 @@ fn far_price(e: Entry, q: Quotes, t: Terms, s: Standing) -> bool
     )
 }
 
+// A limit for the day may come to rest, whatever it trades first.
 fn might_rest(e: Entry) -> bool
     ensures { λ r. ⌜ r ≡ mightRest e ⌝ }
 {
     both(e.kind == LIMIT, e.life == DAY)
 }
 
+// 17: the tenant's own rows are all taken, however empty the book is.
 fn no_room(e: Entry, s: Standing) -> bool
     ensures { λ r. ⌜ r ≡ noRoom e s ⌝ }
 {
     both(might_rest(e), ROWS_A_TENANT <= s.resting)
 }
 
+// 19: no order number is left.
 fn used_up(s: Standing) -> bool
     ensures { λ r. ⌜ r ≡ usedUp s ⌝ }
 {

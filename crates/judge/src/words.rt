@@ -1,26 +1,44 @@
-// The words that the rules are made of: and, or, not, first, least, greatest, and sums that hold any two prices.
+// The words that the rules are made of: and, or, not, the ranges of numbers, first, least, greatest, and sums that hold any two prices.
 use units::Cents;
 ghost use mathlib.Core.Path.{_≡_};
 ghost use Prim.Native.Nat.{_+_, _-_};
 ghost use Rattle.units.specs.Tests.{_and_, _or_, isNot, pick};
 ghost use Rattle.units.specs.Cases.{lowerIf, higherIf};
+ghost use Rattle.judge.specs.Numbers.{oneOrTwo, from1to};
 
+// Whether both tests hold.
 pub fn both(a: bool, b: bool) -> bool
     ensures { λ r. ⌜ r ≡ (a and b) ⌝ }
 {
     if a { b } else { false }
 }
 
+// Whether one of the tests holds, or both.
 pub fn either(a: bool, b: bool) -> bool
     ensures { λ r. ⌜ r ≡ (a or b) ⌝ }
 {
     if a { true } else { b }
 }
 
+// Whether the test fails.
 pub fn is_not(a: bool) -> bool
     ensures { λ r. ⌜ r ≡ isNot a ⌝ }
 {
     if a { false } else { true }
+}
+
+// Sides, lives, allocations and option types are numbered 1 and 2.
+pub fn one_or_two(n: u32) -> bool
+    ensures { λ r. ⌜ r ≡ oneOrTwo n ⌝ }
+{
+    either(n == 1, n == 2)
+}
+
+// Prices and sizes run from 1 to the most that is allowed.
+pub fn from_one_to(most: u32, n: u32) -> bool
+    ensures { λ r. ⌜ r ≡ from1to most n ⌝ }
+{
+    both(1 <= n, n <= most)
 }
 
 // The number where the test holds, else the rest.
@@ -56,12 +74,14 @@ pub fn higher(test: bool, price: u32, bound: u32) -> u32
     }
 }
 
+// A price, as a number that a sum of prices fits.
 pub fn wide(price: Cents) -> u64
     ensures { λ r. ⌜ r ≡ price .0 ⌝ }
 {
     price.0 as u64
 }
 
+// A price and a buffer together.
 pub fn plus(a: Cents, b: Cents) -> u64
     ensures { λ r. ⌜ r ≡ a .0 + b .0 ⌝ }
 {
