@@ -3,6 +3,7 @@ pub mod Market
 pub mod Settings
 pub mod SettingsLaws
 pub mod Submit
+pub mod SubmitLaws
 pub mod Turn
 pub mod Opening
 pub mod Sound

@@ -42,6 +42,10 @@ pub record SoundLanes (l : Lanes) (entries : List ℕ) : Type 0 where
   pub place : l .place < tenants
   pub formed : (t i : ℕ) → t < tenants → i < lenOf l t → malformed (waitingAt l entries t i) ≡ false
 
+-- the lanes' part of what a market has: once settings are accepted, sound lanes
+abbrev pub LanesSound : Session → List ℕ → Type 0
+LanesSound s entries = s .accepted ≡ true → SoundLanes (s .lanes) entries
+
 -- contracts bought and resting to buy are within 999,999 for each number given, and so are those sold and resting to sell: no sum overflows
 pub record SoundTallies (m : Market) : Type 0 where
   pub long : length (m .session .tallies) ≡ tenants

@@ -5,7 +5,7 @@ use Prim.Native.Nat.{ℕ, _+_, _*_}
 use lib.Dec.{leb, ltb, eqb}
 use lib.ListN.{length}
 use Rattle.units.specs.Tests.{_and_, isNot, pick}
-use Rattle.units.specs.Cases.{_when_, firstOf}
+use Rattle.units.specs.Cases.{Case, _when_, firstOf}
 use Rattle.units.specs.Firsts.{firstTo}
 use Rattle.judge.specs.Numbers.{from1to}
 use Rattle.judge.specs.Entry.{malformed}
@@ -23,15 +23,17 @@ unfoldable pub someMalformed : ℕ → List ℕ → Bool
 someMalformed count ns = ltb (firstTo (λ j. malformed (entryAt ns j)) count) count
 
 -- the numbers in the order of checking: 1 tenant, 3 count, 2 any malformed entry, 4 waiting plus count above 64
-unfoldable pub submitRefusal : Session → ℕ → ℕ → List ℕ → ℕ
-submitRefusal s tenant count ns =
-    firstOf 0
-    (unset s
+abbrev pub submitCases : Session → ℕ → ℕ → List ℕ → List Case
+submitCases s tenant count ns =
+    unset s
     ∷ (1 when leb tenants tenant)
     ∷ (3 when isNot (wellCounted count ns))
     ∷ (2 when someMalformed count ns)
     ∷ (4 when ltb depth (lenOf (s .lanes) tenant + count))
-    ∷ [])
+    ∷ []
+
+unfoldable pub submitRefusal : Session → ℕ → ℕ → List ℕ → ℕ
+submitRefusal s tenant count ns = firstOf 0 (submitCases s tenant count ns)
 
 -- a session with other lanes
 abbrev pub withLanes : Session → Lanes → Session
