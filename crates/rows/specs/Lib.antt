@@ -1,3 +1,5 @@
 -- What is said of the rows of a book.
 pub mod Rows
 pub mod Passes
+pub mod Levels
+pub mod LevelLaws
