@@ -1,7 +1,9 @@
 -- What the matching crate promises: the rules of document 01 about the book, as definitions, and their laws.
 pub mod Book
 pub mod Allocation
+pub mod AllocationLaws
 pub mod Records
+pub mod RecordLaws
 pub mod Trading
 pub mod Opening
 pub mod Sound

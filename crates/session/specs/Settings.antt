@@ -12,7 +12,7 @@ use Rattle.units.specs.Units.{cents}
 use Rattle.units.specs.Grid.{gridOf, stepping}
 use Rattle.units.specs.Tests.{_or_, pick}
 use Rattle.units.specs.Cases.{_when_, firstOf}
-use Rattle.rows.specs.Rows.{rows, highest}
+use Rattle.rows.specs.Rows.{highest}
 use Rattle.book.specs.Book.{Book}
 use Rattle.judge.specs.declared.Settings.{Settings}
 use Rattle.judge.specs.declared.Terms.{Terms}
@@ -26,15 +26,15 @@ use Rattle.session.specs.Tallies.{zeroTally}
 abbrev pub noQuote : Away
 noQuote = record { bid = cents 0; offer = cents 0 }
 
--- an empty book: every column 0 throughout
-abbrev pub emptyBook : Book
-emptyBook = record {
-  places = rows;
-  sides = replicate rows 0;
-  prices = replicate rows 0;
-  sizes = replicate rows 0;
-  owners = replicate rows 0;
-  numbers = replicate rows 0;
+-- an empty book of n rows: every column 0 throughout
+abbrev pub emptyBook : ℕ → Book
+emptyBook n = record {
+  places = n;
+  sides = replicate n 0;
+  prices = replicate n 0;
+  sizes = replicate n 0;
+  owners = replicate n 0;
+  numbers = replicate n 0;
 }
 
 -- a session on new terms: lanes, tallies and away quote empty, the rotation at tenant 0, the next number at 1 and the series unopened
@@ -70,13 +70,13 @@ abbrev pub newSession : Session
 newSession = startedOn false noTerms
 
 -- Accepted settings empty book, lanes, tallies and away quote, put the rotation at tenant 0, the next number at 1 and the series unopened.
-abbrev pub resetOn : Terms → Market
-resetOn terms = record { session = startedOn true terms; book = emptyBook; entries = replicate allEntries 0 }
+abbrev pub resetOn : Market → Terms → Market
+resetOn m terms = record { session = startedOn true terms; book = emptyBook (m .book .places); entries = replicate allEntries 0 }
 
 -- 7 value outside the list: the grid's number is none, or another value is out of its range
 abbrev pub onGridOf : Market → Settings → Chosen → Called
 onGridOf m s NoSuch = record { market = m; code = 7 }
-onGridOf m s (One g) = pick (inRange s) (record { market = resetOn (termsOf s g); code = 0 }) (record { market = m; code = 7 })
+onGridOf m s (One g) = pick (inRange s) (record { market = resetOn m (termsOf s g); code = 0 }) (record { market = m; code = 7 })
 
 unfoldable pub settingsOf : Market → Settings → Called
 settingsOf m s = onGridOf m s (gridOf (s .grid))

@@ -89,6 +89,16 @@ sum-less {f} {g} (suc n) i h p x = elim (order i n) [
   | more q ↦ omega arith
 ]
 
+-- smaller terms, and what one of them lacks
+pub sum-gap : {f g : ℕ → ℕ} (n i : ℕ) → ((j : ℕ) → j < n → f j ≤ g j) → i < n → sumTo f n + g i ≤ sumTo g n + f i
+unfolding sumTo
+sum-gap zero i h p = omega arith
+sum-gap {f} {g} (suc n) i h p = elim (order i n) [
+  | less q ↦ omega (arith, sum-gap n i (λ j r. h j (omega arith)) q, h n (omega arith))
+  | equal q ↦ omega (arith, sum-most n (λ j r. h j (omega arith)), ap f q, ap g q)
+  | more q ↦ omega arith
+]
+
 -- terms that are 0 but at one place
 pub sum-only : (f : ℕ → ℕ) (n i : ℕ) → i < n → ((j : ℕ) → j < n → j ≢ i → f j ≡ 0) → sumTo f n ≡ f i
 unfolding sumTo

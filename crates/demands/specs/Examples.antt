@@ -1,0 +1,190 @@
+-- E1 to E12 of the paper, of the rules' own definitions: one record with a field for each, and one value of it.
+use mathlib.Core.Path.{_≡_, refl}
+use mathlib.Core.Bool.{true, false, _&&_, cond}
+use mathlib.Core.List.{List, [], _∷_}
+use Prim.Native.Nat.{ℕ, zero, suc}
+use Rattle.units.specs.Units.{cents, contracts}
+use Rattle.units.specs.GridLaws.{E4, e4 as grid-two}
+use Rattle.units.specs.Tests.{_and_, _or_, isNot, pick}
+use Rattle.units.specs.Cases.{lowerIf, higherIf}
+use Rattle.units.specs.Sums.{sumTo}
+use Rattle.units.specs.Picked.{same, lower, precedes}
+use Rattle.units.specs.Firsts.{firstTo}
+use Rattle.units.specs.Leasts.{leastTo, greatestTo}
+use Rattle.units.specs.Places.{at, table}
+use Rattle.number.specs.Examples.{E12, e12 as numbers-read}
+use Rattle.rows.specs.Rows.{keyOf, within, openSize, buyPrice, sellPrice, restsFor, isOrder}
+use Rattle.rows.specs.Passes.{highestBuy, lowestSell, standing, restingRows, orderRow, freeRow}
+use Rattle.book.specs.Book.{Book, bestOffer, crosses, rested}
+use Rattle.book.specs.Allocation.{classOf, before, level, earlier, ahead, rank, left, whole, leftover, extra, fill}
+use Rattle.book.specs.Records.{soonerThan, pos, ofTraded, records, recorded, fieldOf, written}
+use Rattle.book.specs.Trading.{ofTenant, filled, traded, afterTrade, tradeRecords, tradeWritten}
+use Rattle.book.specs.Opening.{sortKey, volume, bought, sold, matched, afterFills, buyGoes, sellGoes, afterOpening, openingRecords, openingWritten}
+use Rattle.judge.specs.declared.Entry.{Entry}
+use Rattle.judge.specs.Entry.{isCancel}
+use Rattle.judge.specs.Quotes.{lowerOffer, quotesOf}
+use Rattle.judge.specs.TurnDown.{notYet, offGrid, atStrike, noOffer, unbid, noBid, converts, asJudged, abovePercent, tooWide, farBuy, farSell, farPrice, mightRest, noRoom, usedUp, turnDown}
+use Rattle.judge.specs.Bound.{buyBound, sellBound, boundOf}
+use Rattle.judge.specs.Disposition.{beyondDrill, atAway, dispositionOf}
+use Rattle.judge.specs.Verdict.{verdict}
+use Rattle.lanes.specs.declared.Lanes.{Lanes}
+use Rattle.lanes.specs.declared.Served.{Served}
+use Rattle.lanes.specs.declared.Served.the-variants.{Lane, Nobody}
+use Rattle.lanes.specs.Ring.{entryAt, slot, waitingAt, taken}
+use Rattle.lanes.specs.Rotation.{distance, served}
+use Rattle.price.specs.declared.Choice.the-variants.{At, NoneValid}
+use Rattle.price.specs.Amounts.{minimumAmount}
+use Rattle.price.specs.Price.{nearEither, valid, midpoint, usable, firstValid, priceOf}
+use Rattle.session.specs.declared.TurnAnswer.the-variants as turn-answer
+use Rattle.session.specs.declared.OpenAnswer.the-variants as open-answer
+use Rattle.session.specs.Market.{Market}
+use Rattle.session.specs.Tallies.{addedFrom, turnsInAll}
+use Rattle.session.specs.Turn.{quotesIn, turnRefusal, afterTaking, cancelTurn, restTurn, filledOf, dispositionIn, bookAfter, restingShare, talliesAfter, tradeTurn, entryTurn, turnOf}
+use Rattle.session.specs.Opening.{choiceOf, openRefusal, openQuiet, openAt, openOf}
+use Rattle.demands.specs.Markets.{terms, putTerms, awayQuote, order, quotes, open-to-all, sessionOn}
+
+-- offers at one price, of the sizes given, numbered from 1
+abbrev offersOf : List ℕ → ℕ → Book
+offersOf sizes n = record {
+  places = n;
+  sides = 2 ∷ 2 ∷ 2 ∷ 2 ∷ [];
+  prices = 100 ∷ 100 ∷ 100 ∷ 100 ∷ [];
+  sizes = sizes;
+  owners = 0 ∷ 0 ∷ 0 ∷ 0 ∷ [];
+  numbers = 1 ∷ 2 ∷ 3 ∷ 4 ∷ [];
+}
+
+-- what each trades in proportion with an order of q
+abbrev shares : List ℕ → ℕ → ℕ → List ℕ
+shares sizes n q = table (traded (offersOf sizes n) 2 100 q 2) n
+
+-- two offers of tenants 3 and 4, numbered 1 and 2, and a free row
+abbrev offers : ℕ → ℕ → ℕ → ℕ → Book
+offers p s p′ s′ = record {
+  places = 3;
+  sides = 2 ∷ 2 ∷ 0 ∷ [];
+  prices = p ∷ p′ ∷ 0 ∷ [];
+  sizes = s ∷ s′ ∷ 0 ∷ [];
+  owners = 3 ∷ 4 ∷ 0 ∷ [];
+  numbers = 1 ∷ 2 ∷ 0 ∷ [];
+}
+
+-- offers 103×4, 105×6, away offer 104, D and F 10; tenant 0's day buy 20 at 106 waits
+abbrev pub seventh : Market
+seventh = record {
+  session = sessionOn true (terms 10 10 0) (awayQuote 0 104) 3;
+  book = offers 103 4 105 6;
+  entries = 1 ∷ 1 ∷ 1 ∷ 106 ∷ 20 ∷ 0 ∷ [];
+}
+
+-- offers 100×1, 104×1, no away, D 5, F 20; tenant 0's day buy 9 at 112 waits
+abbrev pub eighth : Market
+eighth = record {
+  session = sessionOn true (terms 5 20 0) (awayQuote 0 0) 3;
+  book = offers 100 1 104 1;
+  entries = 1 ∷ 1 ∷ 1 ∷ 112 ∷ 9 ∷ 0 ∷ [];
+}
+
+-- buys #1 110×5, #2 105×5; sells #3 104×4, #4 108×3; unopened, and 105 the last print
+abbrev pub eleventh : Market
+eleventh = record {
+  session = sessionOn false (terms 10 20 105) (awayQuote 0 0) 5;
+  book = record {
+    places = 4;
+    sides = 1 ∷ 1 ∷ 2 ∷ 2 ∷ [];
+    prices = 110 ∷ 105 ∷ 104 ∷ 108 ∷ [];
+    sizes = 5 ∷ 5 ∷ 4 ∷ 3 ∷ [];
+    owners = 0 ∷ 1 ∷ 2 ∷ 3 ∷ [];
+    numbers = 1 ∷ 2 ∷ 3 ∷ 4 ∷ [];
+  };
+  entries = [];
+}
+
+-- lanes 0, 3, 5 hold 20, 1, 1; the rotation at 0
+abbrev tenth : Lanes
+tenth = record {
+  heads = 0 ∷ 0 ∷ 0 ∷ 0 ∷ 0 ∷ 0 ∷ 0 ∷ 0 ∷ 0 ∷ [];
+  lens = 20 ∷ 0 ∷ 0 ∷ 1 ∷ 0 ∷ 1 ∷ 0 ∷ 0 ∷ 0 ∷ [];
+  place = 0;
+}
+
+-- the lanes served, where each is then taken
+abbrev servedFor : ℕ → Lanes → List Served
+servedFor zero l = []
+servedFor (suc n) l = served l ∷ servedFor n (next (served l))
+  where
+    next : Served → Lanes
+    next (Lane t) = taken l t
+    next Nobody = l
+
+-- a market buy of one, now
+abbrev marketBuy : Entry
+marketBuy = order 2 1 2 0 1
+
+pub record Examples : Type 0 where
+  -- E1 sizes 5, 5, 5, 5, Q 10: 3, 3, 2, 2.
+  pub e1 : shares (5 ∷ 5 ∷ 5 ∷ 5 ∷ []) 4 10 ≡ 3 ∷ 3 ∷ 2 ∷ 2 ∷ []
+  -- E2 sizes 10, 30, 20, Q 7: 1, 4, 2.
+  pub e2 : shares (10 ∷ 30 ∷ 20 ∷ []) 3 7 ≡ 1 ∷ 4 ∷ 2 ∷ []
+  -- E3 sizes 1, 1, 1, Q 1: 1, 0, 0.
+  pub e3 : shares (1 ∷ 1 ∷ 1 ∷ []) 3 1 ≡ 1 ∷ 0 ∷ 0 ∷ []
+  -- E4 grid 2: 299 and 305 pass, 301 doesn't.
+  pub e4 : E4
+  -- E5 x 10, least 25, greatest 500: 90/110 passes, 85/115 is 15.
+  pub e5 :
+      (turnDown marketBuy (quotes 90 110) (terms 10 20 0) open-to-all ≡ 0)
+      × (turnDown marketBuy (quotes 85 115) (terms 10 20 0) open-to-all ≡ 15)
+  -- E6 grid 1, away 100/151: midpoint 125 valid. 100/153: 126 isn't; last print 120 is; so is close 128.
+  pub e6 :
+      (firstValid 100 151 0 0 ≡ At (cents 125))
+      × (midpoint 100 153 ≡ 126)
+      × (valid 100 153 126 ≡ false)
+      × (firstValid 100 153 120 128 ≡ At (cents 120))
+      × (firstValid 100 153 0 128 ≡ At (cents 128))
+  -- E7 offers 103×4, 105×6, away offer 104, D and F 10, day buy 20 at 106: 4 at 103, disposition 4.
+  pub e7 :
+      (turnOf seventh 216 [] .answer ≡ turn-answer.Accepted 0 3 (contracts 4) 4 1)
+      × (turnOf seventh 216 [] .records ≡ 1 ∷ 3 ∷ 4 ∷ 103 ∷ 0 ∷ 0 ∷ 0 ∷ 0 ∷ 0 ∷ 0 ∷ 0 ∷ 0 ∷ [])
+      × (turnOf seventh 216 [] .market .book .sizes ≡ 0 ∷ 6 ∷ 0 ∷ [])
+  -- E8 offers 100×1, 104×1, no away, D 5, F 20, day buy 9 at 112: 2 filled, disposition 3.
+  pub e8 :
+      (turnOf eighth 216 [] .answer ≡ turn-answer.Accepted 0 3 (contracts 2) 3 2)
+      × (turnOf eighth 216 [] .market .book .sizes ≡ 0 ∷ 0 ∷ 0 ∷ [])
+  -- E9 put, strike 500, grid 2: buy 500 is 12, 495 passes.
+  pub e9 :
+      (turnDown (order 1 1 1 500 1) (quotes 0 0) putTerms open-to-all ≡ 12)
+      × (turnDown (order 1 1 1 495 1) (quotes 0 0) putTerms open-to-all ≡ 0)
+  -- E10 rotation at 0, lanes 0, 3, 5 hold 20, 1, 1: turns go 0, 3, 5, 0, 0.
+  pub e10 : servedFor 5 tenth ≡ Lane 0 ∷ Lane 3 ∷ Lane 5 ∷ Lane 0 ∷ Lane 0 ∷ []
+  -- E11 P 105; buys #1 110×5, #2 105×5; sells #3 104×4, #4 108×3: volume 4, #1 and #3 trade 4, then #1 is cancelled.
+  pub e11 :
+      (openOf eleventh 216 [] .answer ≡ open-answer.AtPrice (cents 105) (contracts 4) 2)
+      × (openOf eleventh 216 [] .records ≡ 1 ∷ 0 ∷ 4 ∷ 105 ∷ 3 ∷ 2 ∷ 4 ∷ 105 ∷ 0 ∷ 0 ∷ 0 ∷ 0 ∷ 0 ∷ 0 ∷ 0 ∷ 0 ∷ [])
+      × (openOf eleventh 216 [] .market .book .sizes ≡ 0 ∷ 5 ∷ 0 ∷ 3 ∷ [])
+  -- E12 0 is 00, 128 is 80 01, 300 is AC 02; 80 00 is 31.
+  pub e12 : E12
+
+pub examples : Examples
+unfolding sumTo same lower precedes firstTo leastTo greatestTo table keyOf within openSize buyPrice sellPrice restsFor isOrder
+    highestBuy lowestSell standing restingRows orderRow freeRow bestOffer crosses rested classOf before level earlier ahead rank left whole
+    leftover extra fill soonerThan pos ofTraded records recorded fieldOf written ofTenant filled traded afterTrade tradeRecords
+    tradeWritten sortKey volume bought sold matched afterFills buyGoes sellGoes afterOpening openingRecords openingWritten lowerOffer quotesOf
+    notYet offGrid atStrike noOffer unbid noBid converts asJudged abovePercent tooWide farBuy farSell farPrice mightRest noRoom usedUp turnDown
+    buyBound sellBound boundOf beyondDrill atAway dispositionOf verdict entryAt slot waitingAt taken distance served minimumAmount nearEither
+    valid midpoint usable firstValid priceOf addedFrom turnsInAll quotesIn turnRefusal afterTaking cancelTurn restTurn filledOf dispositionIn
+    bookAfter restingShare talliesAfter tradeTurn entryTurn turnOf choiceOf openRefusal openQuiet openAt openOf _and_ _or_ isNot pick lowerIf
+    higherIf
+examples = record {
+  e1 = refl;
+  e2 = refl;
+  e3 = refl;
+  e4 = grid-two;
+  e5 = (refl, refl);
+  e6 = (refl, refl, refl, refl, refl);
+  e7 = (refl, refl, refl);
+  e8 = (refl, refl);
+  e9 = (refl, refl);
+  e10 = refl;
+  e11 = (refl, refl, refl);
+  e12 = numbers-read;
+}
