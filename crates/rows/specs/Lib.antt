@@ -1,5 +1,3 @@
 -- What is said of the rows of a book.
 pub mod Rows
 pub mod Passes
-pub mod Levels
-pub mod LevelLaws

@@ -1,5 +1,4 @@
 // The columns of the book: row i is what stands at place i of each, and a row of size 0 is free.
-pub mod levels;
 pub mod passes;
 pub mod row;
 

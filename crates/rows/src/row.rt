@@ -4,12 +4,9 @@ use crate::HIGHEST;
 use crate::NO_PRICE;
 use crate::SELL;
 ghost use mathlib.Core.Path.{_≡_};
-ghost use mathlib.Core.Bool.{_&&_};
 ghost use Prim.Native.Nat.{_-_, min, max};
-ghost use lib.Dec.{ltb, eqb};
-ghost use Rattle.units.specs.Picked.{keep, precedes};
+ghost use Rattle.units.specs.Picked.{keep};
 ghost use Rattle.rows.specs.Rows.{keyOf, within, openSize, buyPrice, sellPrice, restsFor, isOrder};
-ghost use Rattle.rows.specs.Levels.{candidate, wholeOf};
 
 // The lesser of two.
 pub fn lesser(a: u32, b: u32) -> u32
@@ -19,7 +16,7 @@ pub fn lesser(a: u32, b: u32) -> u32
 }
 
 // The greater of two.
-pub fn greater(a: u32, b: u32) -> u32
+pub(crate) fn greater(a: u32, b: u32) -> u32
     ensures { λ r. ⌜ r ≡ max a b ⌝ }
 {
     if a < b { b } else { a }
@@ -39,31 +36,11 @@ pub fn wide(x: u32) -> u64
     x as u64
 }
 
-// The lesser of two wider numbers.
-pub fn nearer(a: u64, b: u64) -> u64
-    ensures { λ r. ⌜ r ≡ min a b ⌝ }
-{
-    if a < b { a } else { b }
-}
-
 // 1 where the test holds, else 0.
 pub fn one(test: bool) -> u32
     ensures { λ r. ⌜ r ≡ keep test 1 ⌝ }
 {
     if test { 1 } else { 0 }
-}
-
-// a comes before b; or they are the same, and n comes before m.
-pub fn precedes(a: u64, b: u64, n: u32, m: u32) -> bool
-    ensures { λ r. ⌜ r ≡ precedes a b n m ⌝ }
-{
-    if a < b {
-        true
-    } else if a == b {
-        n < m
-    } else {
-        false
-    }
 }
 
 // A lower key is a better price.
@@ -100,7 +77,7 @@ pub fn open_size(side: u32, bound: u32, row_side: u32, price: u32, size: u32) ->
 }
 
 // A row's price if it is a resting buy, else 0.
-pub fn buy_price(side: u32, price: u32, size: u32) -> u32
+pub(crate) fn buy_price(side: u32, price: u32, size: u32) -> u32
     ensures { λ r. ⌜ r ≡ buyPrice side price size ⌝ }
 {
     if side == BUY {
@@ -111,7 +88,7 @@ pub fn buy_price(side: u32, price: u32, size: u32) -> u32
 }
 
 // A row's price if it is a resting sell, else above every price.
-pub fn sell_price(side: u32, price: u32, size: u32) -> u32
+pub(crate) fn sell_price(side: u32, price: u32, size: u32) -> u32
     ensures { λ r. ⌜ r ≡ sellPrice side price size ⌝ }
 {
     if side == SELL {
@@ -122,14 +99,14 @@ pub fn sell_price(side: u32, price: u32, size: u32) -> u32
 }
 
 // Whether a row rests for a tenant.
-pub fn rests_for(tenant: u32, owner: u32, size: u32) -> bool
+pub(crate) fn rests_for(tenant: u32, owner: u32, size: u32) -> bool
     ensures { λ r. ⌜ r ≡ restsFor tenant owner size ⌝ }
 {
     if 0 < size { owner == tenant } else { false }
 }
 
 // Whether a row is the resting order of that number, and that tenant's.
-pub fn is_order(tenant: u32, number: u32, owner: u32, row_number: u32, size: u32) -> bool
+pub(crate) fn is_order(tenant: u32, number: u32, owner: u32, row_number: u32, size: u32) -> bool
     ensures { λ r. ⌜ r ≡ isOrder tenant number owner «row_number» size ⌝ }
 {
     if 0 < size {
@@ -140,51 +117,5 @@ pub fn is_order(tenant: u32, number: u32, owner: u32, row_number: u32, size: u32
         }
     } else {
         false
-    }
-}
-
-// The key, if something rests there and it is not below the floor; else the top, past every key.
-pub fn candidate(top: u64, floor: u64, k: u64, size: u32) -> u64
-    ensures { λ r. ⌜ r ≡ candidate top floor k size ⌝ }
-{
-    if size == 0 {
-        top
-    } else if k < floor {
-        top
-    } else {
-        k
-    }
-}
-
-// What a row holds, if it stands at key c.
-fn held_at(k: u64, size: u32, c: u64) -> u32
-    ensures { λ r. ⌜ r ≡ keep (eqb k c) size ⌝ }
-{
-    if k == c { size } else { 0 }
-}
-
-// The whole part of a row's share of what is left, or all of it where all can be had.
-pub fn whole(left: u32, size: u32, total: u64) -> u32
-    ensures { λ r. ⌜ r ≡ wholeOf left size total ⌝ }
-{
-    if total <= wide(left) {
-        size
-    } else {
-        (wide(left) * wide(size) / total) as u32
-    }
-}
-
-// 1 for a row at key c that is larger than s, or of size s and earlier than n.
-pub fn larger(k: u64, size: u32, number: u32, c: u64, s: u32, n: u32) -> u32
-    ensures { λ r. ⌜ r ≡ keep (eqb k c && ltb 0 size && precedes s size number n) 1 ⌝ }
-{
-    if k == c {
-        if 0 < size {
-            one(precedes(wide(s), wide(size), number, n))
-        } else {
-            0
-        }
-    } else {
-        0
     }
 }
