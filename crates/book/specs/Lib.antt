@@ -7,3 +7,5 @@ pub mod RecordLaws
 pub mod Trading
 pub mod Opening
 pub mod Sound
+pub mod Fit
+pub mod BookLaws
