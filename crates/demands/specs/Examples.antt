@@ -38,7 +38,7 @@ use Rattle.price.specs.Price.{nearEither, valid, midpoint, usable, firstValid, 
 use Rattle.session.specs.declared.TurnAnswer.the-variants as turn-answer
 use Rattle.session.specs.declared.OpenAnswer.the-variants as open-answer
 use Rattle.session.specs.Market.{Market}
-use Rattle.session.specs.Tallies.{addedFrom, turnsInAll}
+use Rattle.tally.specs.Tallies.{addedFrom}
 use Rattle.session.specs.Turn.{quotesIn, turnRefusal, afterTaking, cancelTurn, restTurn, filledOf, dispositionIn, bookAfter, restingShare, talliesAfter, tradeTurn, entryTurn, turnOf}
 use Rattle.session.specs.Opening.{choiceOf, openRefusal, openQuiet, openAt, openOf}
 use Rattle.demands.specs.Markets.{terms, putTerms, awayQuote, order, quotes, open-to-all, sessionOn}
@@ -171,7 +171,7 @@ unfolding sumTo same lower precedes firstTo leastTo greatestTo table keyOf withi
     tradeWritten sortKey volume bought sold matched afterFills buyGoes sellGoes afterOpening openingRecords openingWritten lowerOffer quotesOf
     notYet offGrid atStrike noOffer unbid noBid converts asJudged abovePercent tooWide farBuy farSell farPrice mightRest noRoom usedUp turnDown
     buyBound sellBound boundOf beyondDrill atAway dispositionOf verdict entryAt slot waitingAt taken distance served minimumAmount nearEither
-    valid midpoint usable firstValid priceOf addedFrom turnsInAll quotesIn turnRefusal afterTaking cancelTurn restTurn filledOf dispositionIn
+    valid midpoint usable firstValid priceOf addedFrom quotesIn turnRefusal afterTaking cancelTurn restTurn filledOf dispositionIn
     bookAfter restingShare talliesAfter tradeTurn entryTurn turnOf choiceOf openRefusal openQuiet openAt openOf _and_ _or_ isNot pick lowerIf
     higherIf
 examples = record {

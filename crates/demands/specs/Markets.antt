@@ -16,9 +16,9 @@ use Rattle.judge.specs.declared.Terms.{Terms}
 use Rattle.judge.specs.Settings.{termsOf}
 use Rattle.lanes.specs.declared.Lanes.{Lanes}
 use Rattle.lanes.specs.Ring.{tenants}
+use Rattle.tally.specs.Tallies.{noTallies}
 use Rattle.session.specs.declared.Session.{Session}
 use Rattle.session.specs.Market.{Market}
-use Rattle.session.specs.Tallies.{zeroTally}
 
 -- the settings of the worked example: time class, grid 1, call, strike 10000, D 10, F 20, x 10, least 25, greatest 500, no prints
 abbrev pub worked : Settings
@@ -92,5 +92,5 @@ sessionOn opened t away next = record {
   opened = opened;
   lanes = record { heads = replicate tenants 0; lens = 1 ∷ replicate 8 0; place = 0 };
   next = next;
-  tallies = replicate tenants zeroTally;
+  tallies = noTallies;
 }

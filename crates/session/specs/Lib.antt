@@ -1,6 +1,5 @@
 -- What the session promises: the five calls of document 01 as definitions over one market.
 pub mod Market
-pub mod Tallies
 pub mod Settings
 pub mod Submit
 pub mod Turn

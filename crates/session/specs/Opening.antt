@@ -13,11 +13,11 @@ use Rattle.book.specs.Opening.{volume, bought, sold, afterOpening, openingRecor
 use Rattle.price.specs.declared.Sources.{Sources}
 use Rattle.price.specs.declared.Choice.{Choice}
 use Rattle.price.specs.Price.{priceOf, chosen, noneValid}
-use Rattle.session.specs.declared.Tally.{Tally}
+use Rattle.tally.specs.declared.Tally.{Tally}
+use Rattle.tally.specs.Tallies.{added}
 use Rattle.session.specs.declared.OpenAnswer.{OpenAnswer}
 use Rattle.session.specs.declared.OpenAnswer.the-variants as answer
 use Rattle.session.specs.Market.{Market, unset}
-use Rattle.session.specs.Tallies.{added}
 
 -- what an opening makes of a market and of the fill records lent to it, and what it answers
 pub record OpenDone : Type 0 where

@@ -18,10 +18,10 @@ use Rattle.judge.specs.declared.Settings.{Settings}
 use Rattle.judge.specs.declared.Terms.{Terms}
 use Rattle.judge.specs.declared.Away.{Away}
 use Rattle.judge.specs.Settings.{inRange, termsOf}
-use Rattle.lanes.specs.Ring.{tenants, allEntries, empty}
+use Rattle.lanes.specs.Ring.{allEntries, empty}
+use Rattle.tally.specs.Tallies.{noTallies}
 use Rattle.session.specs.declared.Session.{Session}
 use Rattle.session.specs.Market.{Market, Called, unset}
-use Rattle.session.specs.Tallies.{zeroTally}
 
 abbrev pub noQuote : Away
 noQuote = record { bid = cents 0; offer = cents 0 }
@@ -46,7 +46,7 @@ startedOn accepted terms = record {
   opened = false;
   lanes = empty;
   next = 1;
-  tallies = replicate tenants zeroTally;
+  tallies = noTallies;
 }
 
 -- no terms: what a session has before settings are accepted

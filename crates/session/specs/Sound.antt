@@ -1,7 +1,7 @@
 -- What every reached market has.
 use mathlib.Core.Path.{_≡_}
 use mathlib.Core.Bool.{true, false}
-use mathlib.Core.List.{List, [], _∷_}
+use mathlib.Core.List.{List}
 use Prim.Native.Nat.{ℕ, _+_, _*_, _-_, _≤_, _<_}
 use lib.ListN.{length}
 use Rattle.units.specs.Sums.{sumTo}
@@ -14,20 +14,11 @@ use Rattle.judge.specs.declared.Away.{Away}
 use Rattle.judge.specs.Numbers.{largest, lastNumber}
 use Rattle.judge.specs.Entry.{malformed}
 use Rattle.lanes.specs.declared.Lanes.{Lanes}
+use Rattle.tally.specs.Tallies.{turnsInAll, boughtInAll, soldInAll}
 use Rattle.lanes.specs.Ring.{tenants, depth, allEntries, headOf, lenOf, waitingAt}
 use Rattle.session.specs.declared.Session.{Session}
-use Rattle.session.specs.declared.Tally.{Tally}
 use Rattle.session.specs.Market.{Market}
-use Rattle.session.specs.Tallies.{turnsInAll, mostTurns}
-
--- contracts bought in all, and sold
-unfoldable pub boughtInAll : List Tally → ℕ
-boughtInAll [] = 0
-boughtInAll (x ∷ xs) = x .bought + boughtInAll xs
-
-unfoldable pub soldInAll : List Tally → ℕ
-soldInAll [] = 0
-soldInAll (x ∷ xs) = x .sold + soldInAll xs
+use Rattle.session.specs.Turn.{mostTurns}
 
 -- contracts resting on a side
 unfoldable pub restingOn : Book → ℕ → ℕ

@@ -7,7 +7,6 @@ use Rattle.units.specs.declared.Cents.{Cents}
 use Rattle.units.specs.Units.{contracts}
 use Rattle.units.specs.Tests.{pick}
 use Rattle.units.specs.Cases.{_when_, firstOf}
-use Rattle.units.specs.Picked.{keep}
 use Rattle.rows.specs.Rows.{rows}
 use Rattle.book.specs.Book.{Book, bestBid, bestOffer, restingOf, rowOf, rested, freed}
 use Rattle.book.specs.Trading.{ofTenant, traded, filled, afterTrade, tradeRecords, tradeWritten}
@@ -24,12 +23,12 @@ use Rattle.lanes.specs.declared.Served.{Served}
 use Rattle.lanes.specs.declared.Served.the-variants.{Lane, Nobody}
 use Rattle.lanes.specs.Ring.{waitingAt, taken}
 use Rattle.lanes.specs.Rotation.{served}
+use Rattle.tally.specs.declared.Tally.{Tally}
+use Rattle.tally.specs.Tallies.{added, counted, onlyFor, turnsInAll}
 use Rattle.session.specs.declared.Session.{Session}
-use Rattle.session.specs.declared.Tally.{Tally}
 use Rattle.session.specs.declared.TurnAnswer.{TurnAnswer}
 use Rattle.session.specs.declared.TurnAnswer.the-variants as answer
 use Rattle.session.specs.Market.{Market, unset}
-use Rattle.session.specs.Tallies.{added, turnsInAll, mostTurns}
 
 -- what a turn makes of a market and of the fill records lent to it, and what it answers
 pub record TurnDone : Type 0 where
@@ -78,6 +77,10 @@ abbrev pub nobody : Served → Bool
 nobody (Lane t) = false
 nobody Nobody = true
 
+-- 1,000,000,000,000,000,000 turns
+abbrev pub mostTurns : ℕ
+mostTurns = 1000000000000000000
+
 -- the numbers in the order of checking: 5 no lane has an entry, 6 fewer than 216 fill records lent, 35 the tallies show
 -- 1,000,000,000,000,000,000 turns taken in all
 unfoldable pub turnRefusal : Market → ℕ → ℕ
@@ -115,7 +118,7 @@ afterTaking m t = record {
     opened = m .session .opened;
     lanes = taken (m .session .lanes) t;
     next = m .session .next;
-    tallies = added (λ u. keep (eqb u t) 1) (λ u. 0) (λ u. 0) (m .session .tallies);
+    tallies = counted (m .session .tallies) t 1 0 0;
   };
   book = m .book;
   entries = m .entries;
@@ -175,7 +178,7 @@ module _ (m : Market) (t : ℕ) (was : List ℕ) (e : Entry) (bound : Cents) whe
   restingShare u = ofTenant (m .book) u tradedOf
 
   abbrev pub incomingShare : ℕ → ℕ
-  incomingShare u = keep (eqb u t) filledOf
+  incomingShare = onlyFor t filledOf
 
   -- contracts bought and sold, of resting and incoming orders
   unfoldable pub talliesAfter : List Tally

@@ -2,15 +2,9 @@
 use judge::Away;
 use judge::Terms;
 use lanes::Lanes;
+use tally::Tally;
 use units::Cents;
 use units::Contracts;
-
-// What a tenant has done since the last accepted settings: turns taken, contracts bought, contracts sold.
-pub struct Tally {
-    pub turns: u64,
-    pub bought: u64,
-    pub sold: u64,
-}
 
 // All of a session that is small; the columns of the book and the lanes' entries are lent beside it. Nobody makes one but `Session::new` and the
 // calls.

@@ -66,6 +66,16 @@ sum-has f (suc n) i h = elim (order i n) [
   | more p ↦ omega arith
 ]
 
+-- more places, a sum no smaller
+pub sum-grows : (f : ℕ → ℕ) (m n : ℕ) → m ≤ n → sumTo f m ≤ sumTo f n
+unfolding sumTo
+sum-grows f m zero h = let e : m ≡ 0 = omega arith in rw e (omega arith)
+sum-grows f m (suc n) h = elim (order m (suc n)) [
+  | less p ↦ omega (arith, sum-grows f m n (omega arith))
+  | equal p ↦ rw p (omega arith)
+  | more p ↦ omega arith
+]
+
 -- terms that are each at most others, with the same sum, are those others
 pub sum-tight : {f g : ℕ → ℕ} (n : ℕ) → ((i : ℕ) → i < n → f i ≤ g i) → sumTo f n ≡ sumTo g n → (i : ℕ) → i < n → f i ≡ g i
 unfolding sumTo

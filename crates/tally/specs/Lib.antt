@@ -1,0 +1,3 @@
+-- What the tallies promise.
+pub mod Tallies
+pub mod TallyLaws
