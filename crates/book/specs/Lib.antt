@@ -9,3 +9,9 @@ pub mod Opening
 pub mod Sound
 pub mod Fit
 pub mod BookLaws
+pub mod FillLaws
+pub mod Shares
+pub mod FitLaws
+pub mod ShareLaws
+pub mod Recording
+pub mod RecordingLaws

@@ -61,13 +61,13 @@ pub reaching-starts : (n : ℕ) (key size : ℕ → ℕ) (q : ℕ) → Reaching 
 reaching-starts n key size q = omega (arith, sum-none n (λ i p. lower-out key 0 size i (omega arith)))
 
 -- k is the best key from the floor on, and `total` rests there
-module _ (n top : ℕ) (key size : ℕ → ℕ) (q left floor k total : ℕ) (low : floor ≤ top) (inv : Reaching n key size q left floor)
+module _ (n top : ℕ) (key size : ℕ → ℕ) (q left floor k total : ℕ) (low : floor < top) (inv : Reaching n key size q left floor)
     (best : k ≡ bestFrom n top key size floor) (at-k : total ≡ sumTo (same key k size) n) where
   at-best : Reaching n key size q left k
-  at-best = rw best (omega (arith, best-before n top key size floor low))
+  at-best = rw best (omega (arith, best-before n top key size floor (omega arith)))
 
   pub best-bounds : (floor ≤ k) × (k ≤ top)
-  best-bounds = omega (arith, best-floor n top key size floor low, best-top n top key size floor)
+  best-bounds = omega (arith, best-floor n top key size floor (omega arith), best-top n top key size floor)
 
   -- it holds more than is left: the margin
   pub margin-found : left < total → AtMargin n key size q k left
