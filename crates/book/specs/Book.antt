@@ -3,7 +3,7 @@ use mathlib.Core.Bool.{Bool, cond}
 use mathlib.Core.List.{List}
 use Prim.Native.Nat.{ℕ}
 use lib.Dec.{leb}
-use lib.ListN.{set}
+use lib.ListN.{set, replicate}
 use Rattle.units.specs.Places.{at}
 use Rattle.rows.specs.Rows.{rows, highest}
 use Rattle.rows.specs.Passes.{highestBuy, lowestSell, standing, restingRows, orderRow, freeRow}
@@ -22,6 +22,17 @@ pub record Book : Type 0 where
 abbrev pub bookOf : List ℕ → List ℕ → List ℕ → List ℕ → List ℕ → Book
 bookOf sides prices sizes owners numbers =
     record { places = rows; sides = sides; prices = prices; sizes = sizes; owners = owners; numbers = numbers }
+
+-- an empty book of n rows: every column 0 throughout
+abbrev pub emptyBook : ℕ → Book
+emptyBook n = record {
+  places = n;
+  sides = replicate n 0;
+  prices = replicate n 0;
+  sizes = replicate n 0;
+  owners = replicate n 0;
+  numbers = replicate n 0;
+}
 
 module _ (b : Book) where
   abbrev pub sideAt : ℕ → ℕ

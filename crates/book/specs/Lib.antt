@@ -7,3 +7,11 @@ pub mod RecordLaws
 pub mod Trading
 pub mod Opening
 pub mod Sound
+pub mod Fit
+pub mod BookLaws
+pub mod FillLaws
+pub mod Shares
+pub mod FitLaws
+pub mod ShareLaws
+pub mod Recording
+pub mod RecordingLaws

@@ -1,4 +1,6 @@
 // The columns of the book: row i is what stands at place i of each, and a row of size 0 is free.
+pub mod passes;
+pub mod row;
 
 // The rows of the book: nine tenants with 24 each.
 pub const ROWS: usize = 216;
@@ -14,3 +16,6 @@ pub const SELL: u32 = 2;
 
 // The highest price, in cents.
 pub const HIGHEST: u32 = 1000000;
+
+// Above every price, where there is no offer.
+pub const NO_PRICE: u32 = 1000001;

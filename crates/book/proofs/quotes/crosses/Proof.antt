@@ -1,0 +1,14 @@
+-- `book::quotes::crosses` meets its contract, by the two passes.
+use borrow.Author.Needs.{needs}
+use Rattle.book.specs.Book.{crosses}
+use Rattle.book.proofs.quotes.crosses.Statement.{statement}
+use Rattle.book.proofs.quotes.crosses.Tie as tie
+
+pub crosses-spec : {M : Type 1} → statement M
+unfolding crosses
+crosses-spec =
+    tie.close
+    (tie.spec
+    (λ c κs. search needs)
+    (λ c κs. search needs)
+    (λ c. λ owners numbers. rw (← (c .before .lowest-sell .ensures), ← (c .highest-buy .ensures)) (search needs)))

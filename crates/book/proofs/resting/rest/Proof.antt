@@ -1,0 +1,25 @@
+-- `book::resting::rest` meets its contract: it stores at the first free row.
+use borrow.Author.Needs.{needs}
+use Rattle.book.specs.Book.{rested}
+use Rattle.book.specs.BookLaws.{rested-full}
+use Rattle.book.proofs.resting.rest.Statement.{statement}
+use Rattle.book.proofs.resting.rest.Tie as tie
+
+pub rest-spec : {M : Type 1} → statement M
+unfolding rested
+rest-spec =
+    tie.close
+    (tie.spec
+    (λ c κs. search needs)
+    (λ c. search needs)
+    (λ c. search needs)
+    (λ c. search needs)
+    (λ c. search needs)
+    (λ c. search needs)
+    (λ c. search needs)
+    (λ c. search needs)
+    (λ c. search needs)
+    (λ c. search needs)
+    (λ c. search needs)
+    (λ c. cc)
+    (λ c. rested-full _ (c .before .before .before .pre) _ (c .before .free-row .ensures) (c .if1 .left) _ _ _ _ _))

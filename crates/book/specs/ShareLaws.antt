@@ -1,0 +1,111 @@
+-- What a row trades, told by the margin, is what the allocation gives it.
+use mathlib.Core.Path.{_≡_, refl, sym, _∙_}
+use mathlib.Core.List.{List, []}
+use Prim.Native.Nat.{ℕ, _+_, _<_, min}
+use native.Mathlib.Nat.{add-zero}
+use native.Mathlib.Omega.{arith}
+use lib.Dec.{ltb}
+use borrow.Author.Tests.{lt-ltb, le-ltb, eq-eqb, ne-eqb}
+use Rattle.units.specs.Tests.{order, less, equal, more}
+use Rattle.units.specs.Sums.{sumTo}
+use Rattle.units.specs.Picked.{keep, same}
+use Rattle.units.specs.Places.{at, table, table-same}
+use Rattle.rows.specs.Rows.{rows}
+use Rattle.levels.specs.Levels.{wholeOf, larger}
+use Rattle.levels.specs.Margin.{AtMargin}
+use Rattle.book.specs.Book.{bookOf}
+use Rattle.book.specs.Allocation.{Resting, Class, time, proportion, classOf, fill}
+use Rattle.book.specs.AllocationLaws.{Distinct}
+use Rattle.book.specs.Trading.{reach}
+use Rattle.book.specs.Fit.{Apart}
+use Rattle.book.specs.FitLaws.{open-apart}
+use Rattle.book.specs.FillLaws.{fill-free, rank-is, fill-better, fill-worse, fill-earlier, fill-later, fill-last, fill-in-proportion}
+use Rattle.book.specs.Shares.{toMargin, timeShare, termsAt, shareAt, proportionShare}
+use Rattle.book.specs.declared.margin.Margin.{Margin}
+use Rattle.book.specs.declared.shares.Terms.{Terms}
+
+module _ (t : Terms) (size rank : ℕ) where
+  pub share-free : size ≡ 0 → shareAt t size rank ≡ 0
+  unfolding shareAt
+  share-free z = simp (le-ltb 0 size (omega arith))
+
+  pub share-is : 0 < size → shareAt t size rank ≡ wholeOf (t .left) size (t .total) + keep (ltb rank (t .spare)) 1
+  unfolding shareAt
+  share-is x = simp (lt-ltb 0 size x)
+
+  -- nothing was left over
+  pub share-spent : 0 < size → t .spare ≡ 0 → shareAt t size rank ≡ wholeOf (t .left) size (t .total)
+  share-spent x z = share-is x ∙ rw (le-ltb rank (t .spare) (omega arith)) (add-zero _)
+
+module _ (k m size here : ℕ) where
+  pub margin-before : k < m → toMargin k m size here ≡ size
+  unfolding toMargin
+  margin-before h = simp (lt-ltb k m h)
+
+  pub margin-at : k ≡ m → toMargin k m size here ≡ here
+  unfolding toMargin
+  margin-at h = simp (le-ltb k m (omega arith), le-ltb m k (omega arith))
+
+  pub margin-beyond : m < k → toMargin k m size here ≡ 0
+  unfolding toMargin
+  margin-beyond h = simp (le-ltb k m (omega arith), lt-ltb m k h)
+
+module _ (r : Resting) (q : ℕ) (d : Distinct r) (i : ℕ) (p : i < r .places) where
+  open Resting r using (places, size, key, number)
+
+  -- it is enough to tell what a row at the margin trades
+  by-margin : (m rest here : ℕ) (c : Class) → AtMargin places key size q m rest → (key i ≡ m → here ≡ fill r q c i)
+      → toMargin (key i) m (size i) here ≡ fill r q c i
+  by-margin m rest here c reach h = elim (order (key i) m) [
+    | less l ↦ margin-before (key i) m (size i) here l ∙ sym (fill-better r q m rest reach d c i p l)
+    | equal l ↦ margin-at (key i) m (size i) here l ∙ h l
+    | more l ↦ margin-beyond (key i) m (size i) here l ∙ sym (elim (order 0 (size i)) [
+      | less x ↦ fill-worse r q m rest reach d c i p x l
+      | equal x ↦ fill-free r q c i (sym x)
+      | more x ↦ omega arith
+    ])
+  ]
+
+  module _ (m : Margin) (reach : AtMargin places key size q (m .key) (m .left)) where
+    pub time-share-is : (line : Margin) → AtMargin places number (same key (m .key) size) (m .left) (line .key) (line .left)
+        → timeShare (m .key) (line .key) (line .left) (key i) (size i) (number i) ≡ fill r q time i
+    unfolding timeShare
+    time-share-is line turn =
+        let last = min (size i) (line .left) in
+        by-margin (m .key) (m .left) (toMargin (number i) (line .key) (size i) last) time reach (λ e. elim (order (number i) (line .key)) [
+          | less l ↦ margin-before (number i) (line .key) (size i) last l ∙ sym (fill-earlier r q (m .key) (m .left) reach (line .key) (line .left) turn i p e l)
+          | equal l ↦ margin-at (number i) (line .key) (size i) last l ∙ sym (fill-last r q (m .key) (m .left) reach (line .key) (line .left) turn i p e l)
+          | more l ↦ margin-beyond (number i) (line .key) (size i) last l ∙ sym (elim (order 0 (size i)) [
+            | less x ↦ fill-later r q (m .key) (m .left) reach (line .key) (line .left) turn i p e x l
+            | equal x ↦ fill-free r q time i (sym x)
+            | more x ↦ omega arith
+          ])
+        ])
+
+    pub proportion-share-is : proportionShare (termsAt places key size m) (key i) (size i) (sumTo (larger key size number (m .key) (size i) (number i)) places)
+        ≡ fill r q proportion i
+    unfolding proportionShare termsAt
+    proportion-share-is = by-margin (m .key) (m .left) _ proportion reach (λ e. elim (order 0 (size i)) [
+      | less x ↦ share-is _ (size i) _ x ∙ sym (rw (rank-is, e) at (fill-in-proportion r q (m .key) (m .left) reach i p x e))
+      | equal x ↦ share-free _ (size i) _ (sym x) ∙ sym (fill-free r q proportion i (sym x))
+      | more x ↦ omega arith
+    ])
+
+-- the columns of what each row trades
+module _ (side bound q allocation : ℕ) (sides prices sizes numbers : List ℕ) (apart : Apart sizes numbers) (m : Margin) where
+  abbrev rs : Resting
+  rs = reach (bookOf sides prices sizes [] numbers) side bound
+
+  module _ (margin : AtMargin rows (rs .key) (rs .size) q (m .key) (m .left)) where
+    pub shares-by-time : (line : Margin) → AtMargin rows (at numbers) (same (rs .key) (m .key) (rs .size)) (m .left) (line .key) (line .left) → allocation ≡ 1
+        → table (λ i. timeShare (m .key) (line .key) (line .left) (rs .key i) (rs .size i) (at numbers i)) rows ≡ table (fill rs q (classOf allocation)) rows
+    unfolding classOf
+    shares-by-time line turn e = simp (eq-eqb allocation 1 e)
+        (table-same rows (λ i p. time-share-is rs q (open-apart side bound sides prices sizes numbers apart) i p m margin line turn))
+
+    pub shares-in-proportion : (allocation ≡ 1 → ⊥)
+        → table (λ i. proportionShare (termsAt rows (rs .key) (rs .size) m) (rs .key i) (rs .size i) (sumTo (larger (rs .key) (rs .size) (at numbers) (m .key) (rs .size i) (at numbers i)) rows)) rows
+        ≡ table (fill rs q (classOf allocation)) rows
+    unfolding classOf
+    shares-in-proportion e = simp (ne-eqb allocation 1 e)
+        (table-same rows (λ i p. proportion-share-is rs q (open-apart side bound sides prices sizes numbers apart) i p m margin))

@@ -1,0 +1,53 @@
+-- Laws of what a pass looks for and counts of one row.
+use mathlib.Core.Path.{_≡_}
+use mathlib.Core.Bool.{_&&_}
+use Prim.Native.Nat.{ℕ, _*_, _/_, _^_, _≤_, _<_}
+use native.Mathlib.Nat.{le-refl, mul-le-mul-left, mul-le-mul-right, mul-lt-mul-of-pos-right, div-le-of-le-mul, le-of-lt, lt-of-le-of-lt}
+use native.Mathlib.Decide.{decLe}
+use native.Mathlib.Omega.{arith}
+use lib.Dec.{lit<, ltb, eqb}
+use borrow.Author.Tests.{lt-ltb, le-ltb, le-leb, lt-leb}
+use Rattle.units.specs.Tests.{order, less, equal, more}
+use Rattle.units.specs.Picked.{keep, precedes, same}
+use Rattle.levels.specs.Levels.{candidate, wholeOf, larger}
+
+module _ (top floor k size : ℕ) where
+  pub candidate-free : size ≡ 0 → candidate top floor k size ≡ top
+  unfolding candidate
+  candidate-free h = simp h
+
+  pub candidate-low : k < floor → candidate top floor k size ≡ top
+  unfolding candidate
+  candidate-low h = elim (order 0 size) [
+    | less x ↦ simp (lt-ltb 0 size x, lt-leb floor k h)
+    | equal x ↦ simp (le-ltb 0 size (omega arith))
+    | more x ↦ omega arith
+  ]
+
+  pub candidate-is : 0 < size → floor ≤ k → candidate top floor k size ≡ k
+  unfolding candidate
+  candidate-is x h = simp (lt-ltb 0 size x, le-leb floor k h)
+
+-- a part of a whole takes at most that part of the size
+pub share-most : (left size total : ℕ) → left < total → left * size / total ≤ size
+share-most left size total h = div-le-of-le-mul total (mul-le-mul-right size (le-of-lt h))
+
+pub product-fits : (a b : ℕ) → a < 2 ^ 32 → b < 2 ^ 32 → a * b < 2 ^ 64
+product-fits a b p q = lt-of-le-of-lt (mul-le-mul-left a (le-of-lt q)) (mul-lt-mul-of-pos-right p (lit< tt))
+
+pub whole-most : (left size total : ℕ) → wholeOf left size total ≤ size
+unfolding wholeOf
+whole-most left size total = elim (decLe total left) [
+  | yes q ↦ simp (le-leb total left q) (le-refl size)
+  | no q ↦ simp (lt-leb total left (omega arith)) (share-most left size total (omega arith))
+]
+
+-- what a row counts for, as a loop's body gives it
+module _ (key size number : ℕ → ℕ) (c i : ℕ) {r : ℕ} where
+  pub larger-term : (s n : ℕ) → r ≡ keep (eqb (key i) c && ltb 0 (size i) && precedes s (size i) (number i) n) 1 → r ≡ larger key size number c s n i
+  unfolding larger
+  larger-term s n e = e
+
+  pub held-by-term : (n : ℕ) → r ≡ keep (eqb (number i) n) (keep (eqb (key i) c) (size i)) → r ≡ same number n (same key c size) i
+  unfolding same
+  held-by-term n e = e

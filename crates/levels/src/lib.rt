@@ -1,0 +1,3 @@
+// How an order is shared among the rows that it may trade with: what stands at each price, who came first, who is larger.
+pub mod passes;
+pub mod row;

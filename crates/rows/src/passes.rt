@@ -1,0 +1,103 @@
+// Passes over the rows: each reads a few of their columns and answers one number.
+use crate::Column;
+use crate::NO_PRICE;
+use crate::ROWS;
+use crate::row::buy_price;
+use crate::row::greater;
+use crate::row::is_order;
+use crate::row::lesser;
+use crate::row::one;
+use crate::row::open_size;
+use crate::row::rests_for;
+use crate::row::sell_price;
+use crate::row::wide;
+ghost use mathlib.Core.Path.{_≡_};
+ghost use Rattle.units.specs.Places.{at};
+ghost use Rattle.rows.specs.Rows.{rows};
+ghost use Rattle.rows.specs.Passes.{highestBuy, lowestSell, standing, restingRows, orderRow, freeRow};
+
+// The highest resting buy, 0 where there is none.
+pub fn highest_buy(sides: &Column, prices: &Column, sizes: &Column) -> u32
+    ensures { λ r. ⌜ r ≡ highestBuy rows (at (now (sides .entry))) (at (now (prices .entry))) (at (now (sizes .entry))) ⌝ }
+{
+    let mut most: u32 = 0;
+    let mut i: usize = 0;
+    while i < ROWS {
+        most = greater(most, buy_price(sides[i], prices[i], sizes[i]));
+        i += 1;
+    }
+    most
+}
+
+// The lowest resting sell, above every price where there is none.
+pub fn lowest_sell(sides: &Column, prices: &Column, sizes: &Column) -> u32
+    ensures { λ r. ⌜ r ≡ lowestSell rows (at (now (sides .entry))) (at (now (prices .entry))) (at (now (sizes .entry))) ⌝ }
+{
+    let mut least: u32 = NO_PRICE;
+    let mut i: usize = 0;
+    while i < ROWS {
+        least = lesser(least, sell_price(sides[i], prices[i], sizes[i]));
+        i += 1;
+    }
+    least
+}
+
+// Contracts that may be traded on a side within a bound.
+pub fn standing(side: u32, bound: u32, sides: &Column, prices: &Column, sizes: &Column) -> u64
+    ensures { λ r. ⌜ r ≡ standing rows (at (now (sides .entry))) (at (now (prices .entry))) (at (now (sizes .entry))) side bound ⌝ }
+{
+    let mut sum: u64 = 0;
+    let mut i: usize = 0;
+    while i < ROWS {
+        sum += wide(open_size(side, bound, sides[i], prices[i], sizes[i]));
+        i += 1;
+    }
+    sum
+}
+
+// How many rows a tenant has resting.
+pub fn resting_rows(owners: &Column, sizes: &Column, tenant: u32) -> u32
+    ensures { λ r. ⌜ r ≡ restingRows rows (at (now (owners .entry))) (at (now (sizes .entry))) tenant ⌝ }
+{
+    let mut count: u32 = 0;
+    let mut i: usize = 0;
+    while i < ROWS {
+        count += one(rests_for(tenant, owners[i], sizes[i]));
+        i += 1;
+    }
+    count
+}
+
+// The row of a tenant's resting order, past the last where that number does not rest or is not that tenant's.
+pub fn order_row(
+    owners: &Column,
+    numbers: &Column,
+    sizes: &Column,
+    tenant: u32,
+    number: u32,
+) -> usize
+    ensures { λ r. ⌜ r ≡ orderRow rows (at (now (owners .entry))) (at (now (numbers .entry))) (at (now (sizes .entry))) tenant number ⌝ }
+{
+    let mut i: usize = 0;
+    while i < ROWS {
+        if is_order(tenant, number, owners[i], numbers[i], sizes[i]) {
+            return i;
+        }
+        i += 1;
+    }
+    i
+}
+
+// The first free row, past the last where there is none.
+pub fn free_row(sizes: &Column) -> usize
+    ensures { λ r. ⌜ r ≡ freeRow rows (at (now (sizes .entry))) ⌝ }
+{
+    let mut i: usize = 0;
+    while i < ROWS {
+        if sizes[i] == 0 {
+            return i;
+        }
+        i += 1;
+    }
+    i
+}

@@ -1,0 +1,121 @@
+// What one row counts for, on plain numbers: its side, its price, its size, its owner and its order number.
+use crate::BUY;
+use crate::HIGHEST;
+use crate::NO_PRICE;
+use crate::SELL;
+ghost use mathlib.Core.Path.{_≡_};
+ghost use Prim.Native.Nat.{_-_, min, max};
+ghost use Rattle.units.specs.Picked.{keep};
+ghost use Rattle.rows.specs.Rows.{keyOf, within, openSize, buyPrice, sellPrice, restsFor, isOrder};
+
+// The lesser of two.
+pub fn lesser(a: u32, b: u32) -> u32
+    ensures { λ r. ⌜ r ≡ min a b ⌝ }
+{
+    if a < b { a } else { b }
+}
+
+// The greater of two.
+pub(crate) fn greater(a: u32, b: u32) -> u32
+    ensures { λ r. ⌜ r ≡ max a b ⌝ }
+{
+    if a < b { b } else { a }
+}
+
+// What a has beyond b, if anything.
+pub fn beyond(a: u32, b: u32) -> u32
+    ensures { λ r. ⌜ r ≡ a - b ⌝ }
+{
+    if b < a { a - b } else { 0 }
+}
+
+// A number for a sum of many, which fits a wider one.
+pub fn wide(x: u32) -> u64
+    ensures { λ r. ⌜ r ≡ x ⌝ }
+{
+    x as u64
+}
+
+// 1 where the test holds, else 0.
+pub fn one(test: bool) -> u32
+    ensures { λ r. ⌜ r ≡ keep test 1 ⌝ }
+{
+    if test { 1 } else { 0 }
+}
+
+// A lower key is a better price.
+pub fn key(side: u32, price: u32) -> u32
+    ensures { λ r. ⌜ r ≡ keyOf side price ⌝ }
+{
+    if side == SELL {
+        price
+    } else {
+        beyond(HIGHEST, price)
+    }
+}
+
+// Whether a price is no worse than the bound.
+fn within(side: u32, price: u32, bound: u32) -> bool
+    ensures { λ r. ⌜ r ≡ within side price bound ⌝ }
+{
+    if side == SELL {
+        price <= bound
+    } else {
+        bound <= price
+    }
+}
+
+// What an order may trade with of a row: its size, if it is on the side and within the bound.
+pub fn open_size(side: u32, bound: u32, row_side: u32, price: u32, size: u32) -> u32
+    ensures { λ r. ⌜ r ≡ openSize side bound «row_side» price size ⌝ }
+{
+    if row_side == side {
+        if within(side, price, bound) { size } else { 0 }
+    } else {
+        0
+    }
+}
+
+// A row's price if it is a resting buy, else 0.
+pub(crate) fn buy_price(side: u32, price: u32, size: u32) -> u32
+    ensures { λ r. ⌜ r ≡ buyPrice side price size ⌝ }
+{
+    if side == BUY {
+        if 0 < size { price } else { 0 }
+    } else {
+        0
+    }
+}
+
+// A row's price if it is a resting sell, else above every price.
+pub(crate) fn sell_price(side: u32, price: u32, size: u32) -> u32
+    ensures { λ r. ⌜ r ≡ sellPrice side price size ⌝ }
+{
+    if side == SELL {
+        if 0 < size { price } else { NO_PRICE }
+    } else {
+        NO_PRICE
+    }
+}
+
+// Whether a row rests for a tenant.
+pub(crate) fn rests_for(tenant: u32, owner: u32, size: u32) -> bool
+    ensures { λ r. ⌜ r ≡ restsFor tenant owner size ⌝ }
+{
+    if 0 < size { owner == tenant } else { false }
+}
+
+// Whether a row is the resting order of that number, and that tenant's.
+pub(crate) fn is_order(tenant: u32, number: u32, owner: u32, row_number: u32, size: u32) -> bool
+    ensures { λ r. ⌜ r ≡ isOrder tenant number owner «row_number» size ⌝ }
+{
+    if 0 < size {
+        if owner == tenant {
+            row_number == number
+        } else {
+            false
+        }
+    } else {
+        false
+    }
+}
