@@ -6,7 +6,7 @@ use lib.Dec.{leb, ltb, eqb}
 use Rattle.units.specs.declared.Cents.{Cents}
 use Rattle.units.specs.Units.{contracts}
 use Rattle.units.specs.Tests.{pick}
-use Rattle.units.specs.Cases.{_when_, firstOf}
+use Rattle.units.specs.Cases.{Case, _when_, firstOf}
 use Rattle.rows.specs.Rows.{rows}
 use Rattle.book.specs.Book.{Book, bestBid, bestOffer, restingOf, rowOf, rested, freed}
 use Rattle.book.specs.Trading.{ofTenant, traded, filled, afterTrade, tradeRecords, tradeWritten}
@@ -26,6 +26,7 @@ use Rattle.lanes.specs.Rotation.{served}
 use Rattle.tally.specs.declared.Tally.{Tally}
 use Rattle.tally.specs.Tallies.{added, counted, onlyFor, turnsInAll}
 use Rattle.session.specs.declared.Session.{Session}
+use Rattle.session.specs.declared.Turned.{Turned}
 use Rattle.session.specs.declared.TurnAnswer.{TurnAnswer}
 use Rattle.session.specs.declared.TurnAnswer.the-variants as answer
 use Rattle.session.specs.Market.{Market, marketOf, unset}
@@ -35,6 +36,10 @@ pub record TurnDone : Type 0 where
   pub market : Market
   pub answer : TurnAnswer
   pub records : List ℕ
+
+-- what a turn answered, beside the book, the entries and the fill records that it left
+abbrev pub turnDone : Turned → Book → List ℕ → List ℕ → TurnDone
+turnDone r book entries records = record { market = marketOf (r .session) book entries; answer = r .answer; records = records }
 
 -- the paper's values of a taken turn: tenant, code, number, filled, disposition; an entry turned down gives 0 for number, filled and disposition; an
 -- accepted cancel gives disposition 5, the cancelled order's number and filled 0
@@ -83,14 +88,16 @@ mostTurns = 1000000000000000000
 
 -- the numbers in the order of checking: 5 no lane has an entry, 6 fewer than 216 fill records lent, 35 the tallies show
 -- 1,000,000,000,000,000,000 turns taken in all
-unfoldable pub turnRefusal : Session → ℕ → ℕ
-turnRefusal s lent =
-    firstOf 0
-    (unset s
+abbrev pub turnCases : Session → ℕ → List Case
+turnCases s lent =
+    unset s
     ∷ (5 when nobody (served (s .lanes)))
     ∷ (6 when ltb lent rows)
     ∷ (35 when leb mostTurns (turnsInAll (s .tallies)))
-    ∷ [])
+    ∷ []
+
+unfoldable pub turnRefusal : Session → ℕ → ℕ
+turnRefusal s lent = firstOf 0 (turnCases s lent)
 
 -- a session with another next number and other tallies, and the market of it with another book
 abbrev pub numbered : Session → ℕ → List Tally → Session

@@ -2,6 +2,7 @@
 pub mod away;
 pub mod settings;
 pub mod submit;
+pub mod turn;
 
 use judge::Away;
 use judge::Terms;
