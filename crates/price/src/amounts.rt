@@ -3,9 +3,9 @@ ghost use mathlib.Core.Path.{_≡_};
 ghost use Rattle.price.specs.Amounts.{minimumAmount};
 
 // An amount, in cents, that holds up to a ceiling of the NBB.
-pub struct Row {
-    pub ceiling: u32,
-    pub amount: u32,
+struct Row {
+    ceiling: u32,
+    amount: u32,
 }
 
 const ROWS: [Row; 7] = [
