@@ -4,6 +4,9 @@ pub mod Settings
 pub mod SettingsLaws
 pub mod Submit
 pub mod SubmitLaws
+pub mod Credit
+pub mod CreditLaws
 pub mod Turn
+pub mod TurnLaws
 pub mod Opening
 pub mod Sound

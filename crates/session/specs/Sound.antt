@@ -14,7 +14,7 @@ use Rattle.judge.specs.declared.Away.{Away}
 use Rattle.judge.specs.Numbers.{largest, lastNumber}
 use Rattle.judge.specs.Entry.{malformed}
 use Rattle.lanes.specs.declared.Lanes.{Lanes}
-use Rattle.tally.specs.Tallies.{turnsInAll, boughtInAll, soldInAll}
+use Rattle.tally.specs.Tallies.{turnsInAll, boughtInAll, soldInAll, Fitting}
 use Rattle.lanes.specs.Ring.{tenants, depth, allEntries, headOf, lenOf, waitingAt}
 use Rattle.session.specs.declared.Session.{Session}
 use Rattle.session.specs.Market.{Market}
@@ -45,6 +45,10 @@ pub record SoundLanes (l : Lanes) (entries : List ℕ) : Type 0 where
 -- the lanes' part of what a market has: once settings are accepted, sound lanes
 abbrev pub LanesSound : Session → List ℕ → Type 0
 LanesSound s entries = s .accepted ≡ true → SoundLanes (s .lanes) entries
+
+-- what counting the turns rests on
+abbrev pub TurnsHeld : Session → Type 0
+TurnsHeld s = s .accepted ≡ true → Fitting (s .tallies)
 
 -- contracts bought and resting to buy are within 999,999 for each number given, and so are those sold and resting to sell: no sum overflows
 pub record SoundTallies (m : Market) : Type 0 where

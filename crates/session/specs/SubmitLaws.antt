@@ -7,7 +7,7 @@ use native.Mathlib.Omega.{arith}
 use lib.Dec.{leb, ltb}
 use lib.ListN.{length}
 use borrow.Author.Tests.{lt-ltb, le-ltb, le-leb, lt-leb, eqb-true, leb-true, leb-false, ltb-false}
-use Rattle.units.specs.Tests.{_and_, isNot, pick, and-true, not-holds, not-not}
+use Rattle.units.specs.Tests.{_and_, isNot, pick, and-true, not-holds, not-false}
 use Rattle.units.specs.CaseLaws.{given-none}
 use Rattle.units.specs.Firsts.{firstTo, first-before}
 use Rattle.units.specs.Loops.{Sought, seek-finds, seek-ends}
@@ -89,9 +89,9 @@ joins s tenant count ns e =
     let n2 = and-true (isNot (isNot (wellCounted count ns))) _ (n1 .1) in
     let n3 = and-true (isNot (someMalformed count ns)) _ (n2 .1) in
     let n4 = and-true (isNot (ltb depth (lenOf (s .lanes) tenant + count))) _ (n3 .1) in
-    let well = well-given count ns (not-not _ (not-holds _ (n2 .0))) in
+    let well = well-given count ns (not-false _ (not-holds _ (n2 .0))) in
     record {
-      set = not-not _ (not-holds _ (n0 .0));
+      set = not-false _ (not-holds _ (n0 .0));
       lane = leb-false _ _ (not-holds _ (n1 .0));
       given = well .0;
       few = well .1;

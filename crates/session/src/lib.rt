@@ -1,5 +1,6 @@
 // The session: settings, away quote, book, lanes, rotation and tallies of one option series, and the five calls on it.
 pub mod away;
+mod credit;
 pub mod settings;
 pub mod submit;
 pub mod turn;

@@ -21,30 +21,119 @@ ghost use lib.ListN.{length};
 ghost use Rattle.rows.specs.Rows.{rows};
 ghost use Rattle.book.specs.Book.{bookOf};
 ghost use Rattle.book.specs.Fit.{Whole};
+ghost use Rattle.lanes.specs.Asked.{CanTake};
+ghost use Rattle.tally.specs.Tallies.{Countable};
+ghost use Rattle.judge.specs.Numbers.{lastNumber};
 ghost use Rattle.session.specs.Market.{marketOf};
-ghost use Rattle.session.specs.Sound.{TurnsHeld, CanTakeTurn};
+ghost use Rattle.session.specs.Sound.{TurnsHeld};
 ghost use Rattle.session.specs.Turn.{turnRefusal, afterTaking, turnDone, cancelTurn, restTurn};
 
 // From this many turns in all on, no turn is taken.
 const MOST_TURNS: u64 = 1000000000000000000;
 
-// 5 where no lane has an entry, then 6, then 35.
-fn refusal_once_set(s: Session, lent: usize) -> u32
+// The number by which a turn is refused, or 0.
+fn refusal(s: Session, lent: usize) -> u32
     requires { ⌜ TurnsHeld s ⌝ }
-    ensures { λ r. ⌜ (s .accepted ≡ mathlib.Core.Bool.true → r ≡ turnRefusal s lent) ⌝ }
+    ensures { λ r. ⌜ r ≡ turnRefusal s lent ⌝ }
+{
+    let accepted = s.accepted;
+    if accepted {
+        let lanes = s.lanes;
+        let next = served(lanes);
+        let Served::Lane(_) = next else {
+            return 5;
+        };
+        if lent < ROWS {
+            return 6;
+        }
+        let tallies = s.tallies;
+        if MOST_TURNS <= turns_in_all(tallies) {
+            return 35;
+        }
+        0
+    } else {
+        21
+    }
+}
+
+// The session once the turn of lane t is taken.
+fn after_taking(s: Session, t: usize) -> Session
+    requires { ⌜ CanTake (s .lanes) t ⌝ }
+    requires { ⌜ Countable (s .tallies) t 1 0 0 ⌝ }
+    ensures { λ r. ⌜ r ≡ afterTaking s t ⌝ }
 {
     let lanes = s.lanes;
-    let next = served(lanes);
-    let Served::Lane(_) = next else {
-        return 5;
-    };
-    if lent < ROWS {
-        return 6;
-    }
     let tallies = s.tallies;
-    if MOST_TURNS <= turns_in_all(tallies) {
-        35
+    let fewer = taken(lanes, t);
+    let counted = count(tallies, t, 1, 0, 0);
+    let mut after = s;
+    after.lanes = fewer;
+    after.tallies = counted;
+    after
+}
+
+// A cancel frees the row of its order, if that order rests and is the tenant's.
+fn cancel_turn(
+    s: Session,
+    t: usize,
+    e: Entry,
+    sizes: &mut Column,
+    owners: &Column,
+    numbers: &Column,
+) -> Turned
+    requires { ⌜ t < 9 ⌝ }
+    requires { ⌜ length (now sizes) ≡ rows ⌝ }
+    ensures { λ r. ⌜ ((sides prices entries was : List ℕ) → turnDone r (bookOf sides prices (now (sizes .exit)) (now (owners .entry)) (now (numbers .entry))) entries was ≡ cancelTurn (marketOf s (bookOf sides prices (now (sizes .entry)) (now (owners .entry)) (now (numbers .entry))) entries) t was e) ⌝ }
+{
+    let row = order_row(owners, numbers, sizes, t as u32, e.number);
+    if row < ROWS {
+        free(row, sizes);
+        Turned {
+            session: s,
+            answer: TurnAnswer::Cancelled(t, e.number),
+        }
     } else {
-        0
+        Turned {
+            session: s,
+            answer: TurnAnswer::TurnedDown(t, 18),
+        }
+    }
+}
+
+// Before the opening a day limit simply rests.
+fn rest_turn(
+    s: Session,
+    t: usize,
+    e: Entry,
+    sides: &mut Column,
+    prices: &mut Column,
+    sizes: &mut Column,
+    owners: &mut Column,
+    numbers: &mut Column,
+) -> Turned
+    requires { ⌜ (t < 9) × (s .next ≤ lastNumber) ⌝ }
+    requires { ⌜ Whole (now sides) (now prices) (now sizes) (now owners) (now numbers) ⌝ }
+    ensures { λ r. ⌜ ((entries was : List ℕ) → turnDone r (bookOf (now (sides .exit)) (now (prices .exit)) (now (sizes .exit)) (now (owners .exit)) (now (numbers .exit))) entries was ≡ restTurn (marketOf s (bookOf (now (sides .entry)) (now (prices .entry)) (now (sizes .entry)) (now (owners .entry)) (now (numbers .entry))) entries) t was e) ⌝ }
+{
+    let number = s.next as u32;
+    let price = e.price;
+    let size = e.size;
+    rest(
+        e.side,
+        price,
+        size,
+        t as u32,
+        number,
+        sides,
+        prices,
+        sizes,
+        owners,
+        numbers,
+    );
+    let mut after = s;
+    after.next = s.next + 1;
+    Turned {
+        session: after,
+        answer: TurnAnswer::Accepted(t, number, Contracts(0), 1, 0),
     }
 }

@@ -1,5 +1,5 @@
 -- What a test keeps, and the sums over the places that a key picks.
-use mathlib.Core.Path.{_≡_, refl, sym}
+use mathlib.Core.Path.{_≡_, refl, sym, _∙_}
 use mathlib.Core.Bool.{Bool, true, false, _&&_, _||_}
 use mathlib.Core.Logic.{_≢_}
 use Prim.Native.Nat.{ℕ, suc, _+_, _≤_, _<_}
@@ -9,7 +9,7 @@ use native.Mathlib.Omega.{arith}
 use lib.Dec.{ltb, eqb}
 use borrow.Author.Tests.{lt-ltb, le-ltb, eq-eqb, ne-eqb}
 use Rattle.units.specs.Tests.{order, less, equal, more}
-use Rattle.units.specs.Sums.{sumTo, sum-add, sum-same, sum-has}
+use Rattle.units.specs.Sums.{sumTo, sum-add, sum-same, sum-has, sum-most, sum-none, sum-only, sum-swap}
 
 -- x where the test holds, else 0
 abbrev pub keep : Bool → ℕ → ℕ
@@ -138,3 +138,28 @@ lower-grows key c d f i p = elim (decLt (key i) c) [
 pub sum-lower-all : (key f : ℕ → ℕ) (n : ℕ) → sumTo (lower key (suc (sumTo key n)) f) n ≡ sumTo f n
 sum-lower-all key f n =
     sum-same n (λ i p. lower-in key (suc (sumTo key n)) f i (omega (arith, sum-has key n i p)))
+
+-- of the keys below m, a place is picked by its own
+pub sum-keys : (key f : ℕ → ℕ) (m i : ℕ) → key i < m → sumTo (λ c. same key c f i) m ≡ f i
+sum-keys key f m i h = sum-only (λ c. same key c f i) m (key i) h (λ c _ n. same-out key c f i (λ e. n (sym e))) ∙ same-in key (key i) f i refl
+
+pub sum-keys-most : (key f : ℕ → ℕ) (m i : ℕ) → sumTo (λ c. same key c f i) m ≤ f i
+sum-keys-most key f m i = elim (decLt (key i) m) [
+  | yes h ↦ omega (arith, sum-keys key f m i h)
+  | no h ↦ omega (arith, sum-none {f = λ c. same key c f i} m (λ c p. same-out key c f i (omega arith)))
+]
+
+-- so what the keys below m pick is no more than all, and all where every place has such a key
+pub sum-by-key-most : (key f : ℕ → ℕ) (m n : ℕ) → sumTo (λ c. sumTo (same key c f) n) m ≤ sumTo f n
+sum-by-key-most key f m n =
+    omega (arith, sum-swap (λ c. same key c f) m n, sum-most {f = λ i. sumTo (λ c. same key c f i) m} {g = f} n (λ i _. sum-keys-most key f m i))
+
+pub sum-by-key :
+    (key f : ℕ → ℕ) (m n : ℕ) → ((i : ℕ) → i < n → 0 < f i → key i < m) → sumTo (λ c. sumTo (same key c f) n) m ≡ sumTo f n
+sum-by-key key f m n h =
+    sum-swap (λ c. same key c f) m n
+    ∙ sum-same n (λ i p. elim (order 0 (f i)) [
+      | less x ↦ sum-keys key f m i (h i p x)
+      | equal x ↦ omega (arith, sum-keys-most key f m i)
+      | more x ↦ omega arith
+    ])

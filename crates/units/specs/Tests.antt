@@ -70,12 +70,6 @@ unfolding isNot
 not-fails true h = absurd (true≢false h)
 not-fails false h = refl
 
--- a test whose denial fails holds
-pub not-not : (a : Bool) → isNot a ≡ false → a ≡ true
-unfolding isNot
-not-not true h = refl
-not-not false h = absurd (true≢false h)
-
 -- a test that does not hold fails
 pub fails : (a : Bool) → (a ≡ true → ⊥) → a ≡ false
 fails true h = absurd (h refl)

@@ -1,0 +1,45 @@
+// What the rows that traded add to the tallies.
+use rows::BUY;
+use rows::Column;
+use rows::ROWS;
+use tally::Tally;
+use tally::count;
+ghost use mathlib.Core.Path.{_≡_};
+ghost use Rattle.units.specs.Places.{at};
+ghost use Rattle.tally.specs.Tallies.{added};
+ghost use Rattle.session.specs.Credit.{rowCredit, CanCredit, credited, Creditable};
+
+// One row's contracts, bought if it is a buy and else sold, for its owner.
+fn credit_row(tallies: [Tally; 9], side: u32, owner: u32, quantity: u32) -> [Tally; 9]
+    requires { ⌜ CanCredit tallies side owner quantity ⌝ }
+    ensures { λ r. ⌜ r ≡ rowCredit tallies side owner quantity ⌝ }
+{
+    if quantity == 0 {
+        return tallies;
+    }
+    if side == BUY {
+        count(tallies, owner as usize, 0, quantity as u64, 0)
+    } else {
+        count(tallies, owner as usize, 0, 0, quantity as u64)
+    }
+}
+
+// Every row's contracts, for its owner.
+pub(crate) fn credit(
+    tallies: [Tally; 9],
+    sides: &Column,
+    owners: &Column,
+    traded: &Column,
+) -> [Tally; 9]
+    requires { ⌜ Creditable tallies (at (now sides)) (at (now owners)) (at (now traded)) ⌝ }
+    ensures { λ r. ⌜ r ≡ credited tallies (at (now (sides .entry))) (at (now (owners .entry))) (at (now (traded .entry))) ⌝ }
+{
+    let mut after = tallies;
+    let mut i: usize = 0;
+    while i < ROWS {
+        let next = credit_row(after, sides[i], owners[i], traded[i]);
+        after = next;
+        i += 1;
+    }
+    after
+}
