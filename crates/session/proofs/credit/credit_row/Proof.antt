@@ -20,8 +20,8 @@ pub credit-row-spec : {M : Type 1} → statement M
 credit-row-spec =
     tie.close
     (tie.spec
-    (λ c. row-none _ _ _ _ (c .if1 .taken))
+    (λ c. let a = c .before .args in row-none _ (a .side) (a .owner) (a .quantity) (c .if1 .taken))
     (λ c κs. can-buy _ _ _ _ (c .before .before .pre) (omega arith) (c .if2 .taken))
     count-requires-2
-    (λ c. c .count .ensures ∙ row-bought _ _ _ _ (c .before .if2 .taken))
+    (λ c. let a = c .before .before .before .args in c .count .ensures ∙ row-bought _ (a .side) (a .owner) (a .quantity) (c .before .if2 .taken))
     returns-3)
