@@ -15,3 +15,6 @@ pub mod FitLaws
 pub mod ShareLaws
 pub mod Recording
 pub mod RecordingLaws
+pub mod SameRecords
+pub mod TradingLaws
+pub mod Answers
