@@ -10,7 +10,6 @@ pub mod Sound
 pub mod Fit
 pub mod BookLaws
 pub mod FillLaws
-pub mod Shares
 pub mod FitLaws
 pub mod ShareLaws
 pub mod Recording

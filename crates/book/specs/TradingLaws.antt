@@ -13,6 +13,7 @@ use Rattle.units.specs.Places.{at, table, table-at, table-is, table-same}
 use Rattle.rows.specs.Rows.{rows, keyOf, openSize}
 use Rattle.rows.specs.Passes.{standing}
 use Rattle.levels.specs.Levels.{keysOn}
+use Rattle.margin.specs.RangeLaws.{open-most}
 use Rattle.book.specs.Book.{Book, bookOf, sideAt, priceAt, sizeAt, numberAt, withinBound}
 use Rattle.book.specs.Allocation.{fill, classOf}
 use Rattle.book.specs.AllocationLaws.{Distinct, fill-most, all-filled}
@@ -24,7 +25,6 @@ use Rattle.book.specs.Opening.{sortKey}
 use Rattle.book.specs.Recording.{sortKeys, took}
 use Rattle.book.specs.SameRecords.{sort-order, records-same, written-same}
 use Rattle.book.specs.Fit.{Fit}
-use Rattle.book.specs.FitLaws.{open-most}
 use Rattle.book.specs.declared.trading.Traded.{Traded}
 
 -- what may be traded with an order that trades with side s is on side s

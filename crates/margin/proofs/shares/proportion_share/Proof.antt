@@ -1,13 +1,13 @@
--- `book::shares::proportion_share` meets its contract, by where the row stands to the margin.
+-- `margin::shares::proportion_share` meets its contract, by where the row stands to the margin.
 use mathlib.Core.Path.{sym, _∙_}
 use native.Mathlib.Omega.{arith}
 use borrow.Author.Needs.{needs}
-use Rattle.book.specs.FitLaws.{open-most}
-use Rattle.book.specs.ShareLaws.{margin-before, margin-at, margin-beyond}
-use Rattle.book.specs.Shares.{proportionShare}
+use Rattle.margin.specs.RangeLaws.{open-most}
+use Rattle.margin.specs.ShareLaws.{margin-before, margin-at, margin-beyond}
+use Rattle.margin.specs.Shares.{proportionShare}
 use Rattle.units.specs.Places.{at}
-use Rattle.book.proofs.shares.proportion_share.Statement.{statement}
-use Rattle.book.proofs.shares.proportion_share.Tie as tie
+use Rattle.margin.proofs.shares.proportion_share.Statement.{statement}
+use Rattle.margin.proofs.shares.proportion_share.Tie as tie
 
 pub proportion-share-spec : {M : Type 1} → statement M
 unfolding proportionShare

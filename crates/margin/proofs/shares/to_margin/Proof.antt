@@ -1,10 +1,10 @@
--- `book::shares::to_margin` meets its contract, by where the row stands to the margin.
+-- `margin::shares::to_margin` meets its contract, by where the row stands to the margin.
 use mathlib.Core.Path.{sym}
 use native.Mathlib.Omega.{arith}
 use borrow.Author.Needs.{needs}
-use Rattle.book.specs.ShareLaws.{margin-before, margin-at, margin-beyond}
-use Rattle.book.proofs.shares.to_margin.Statement.{statement}
-use Rattle.book.proofs.shares.to_margin.Tie as tie
+use Rattle.margin.specs.ShareLaws.{margin-before, margin-at, margin-beyond}
+use Rattle.margin.proofs.shares.to_margin.Statement.{statement}
+use Rattle.margin.proofs.shares.to_margin.Tie as tie
 
 pub to-margin-spec : {M : Type 1} → statement M
 to-margin-spec =

@@ -5,8 +5,8 @@ use lib.Dec.{ltb}
 use Rattle.units.specs.Sums.{sumTo}
 use Rattle.units.specs.Picked.{keep, same}
 use Rattle.levels.specs.Levels.{wholeOf, wholes}
-use Rattle.book.specs.declared.margin.Margin.{Margin}
-use Rattle.book.specs.declared.shares.Terms.{Terms}
+use Rattle.margin.specs.declared.reach.Margin.{Margin}
+use Rattle.margin.specs.declared.shares.Terms.{Terms}
 
 -- All of a row before the margin m, nothing of one past it, and at it what is said.
 unfoldable pub toMargin : ℕ → ℕ → ℕ → ℕ → ℕ

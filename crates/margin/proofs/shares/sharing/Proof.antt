@@ -1,8 +1,8 @@
--- `book::shares::sharing` meets its contract, by its passes.
+-- `margin::shares::sharing` meets its contract, by its passes.
 use borrow.Author.Needs.{needs}
-use Rattle.book.specs.Shares.{termsAt}
-use Rattle.book.proofs.shares.sharing.Statement.{statement}
-use Rattle.book.proofs.shares.sharing.Tie as tie
+use Rattle.margin.specs.Shares.{termsAt}
+use Rattle.margin.proofs.shares.sharing.Statement.{statement}
+use Rattle.margin.proofs.shares.sharing.Tie as tie
 
 pub sharing-spec : {M : Type 1} → statement M
 unfolding termsAt

@@ -1,14 +1,14 @@
--- `book::margin::reached` meets its contract: at each price what is left is what better prices leave of the order.
+-- `margin::reach::reached` meets its contract: at each price what is left is what better prices leave of the order.
 use Prim.Native.Nat.{_-_}
 use native.Mathlib.Omega.{arith}
 use borrow.Author.Needs.{needs}
-use Rattle.book.specs.FitLaws.{keys-below}
+use Rattle.margin.specs.RangeLaws.{keys-below}
 use Rattle.levels.specs.Levels.{keysOn, opensOn}
-use Rattle.levels.specs.MarginLaws.{Reaching, reaching-starts, best-bounds, margin-found, reaching-goes-on, margin-past}
+use Rattle.margin.specs.MarginLaws.{Reaching, reaching-starts, best-bounds, margin-found, reaching-goes-on, margin-past}
 use Rattle.rows.specs.Rows.{rows}
 use Rattle.units.specs.Places.{at}
-use Rattle.book.proofs.margin.reached.Statement.{statement}
-use Rattle.book.proofs.margin.reached.Tie as tie
+use Rattle.margin.proofs.reach.reached.Statement.{statement}
+use Rattle.margin.proofs.reach.reached.Tie as tie
 
 abbrev Inv-loop : tie.InvT-loop
 Inv-loop side bound q sides prices sizes left₀ floor₀ left floor = Reaching rows (keysOn side (at prices)) (opensOn side bound (at sides) (at prices) (at sizes)) q left floor

@@ -1,14 +1,14 @@
--- `book::shares::in_proportion` meets its contract: the rows passed have what they trade.
+-- `margin::shares::in_proportion` meets its contract: the rows passed have what they trade.
 use Prim.Native.Nat.{_-_}
 use borrow.Author.Needs.{needs}
-use Rattle.book.specs.Shares.{proportionShare}
+use Rattle.margin.specs.Shares.{proportionShare}
 use Rattle.levels.specs.Levels.{keysOn, opensOn, larger}
 use Rattle.rows.specs.Rows.{rows, keyOf, openSize}
 use Rattle.units.specs.Loops.{Stored, store-starts, store-goes-on, store-ends}
 use Rattle.units.specs.Places.{at}
 use Rattle.units.specs.Sums.{sumTo}
-use Rattle.book.proofs.shares.in_proportion.Statement.{statement}
-use Rattle.book.proofs.shares.in_proportion.Tie as tie
+use Rattle.margin.proofs.shares.in_proportion.Statement.{statement}
+use Rattle.margin.proofs.shares.in_proportion.Tie as tie
 
 abbrev Inv-loop : tie.InvT-loop
 Inv-loop side bound t sides prices sizes numbers out₀ i₀ out i = Stored rows (λ j. proportionShare t (keyOf side (at prices j)) (openSize side bound (at sides j) (at prices j) (at sizes j)) (sumTo (larger (keysOn side (at prices)) (opensOn side bound (at sides) (at prices) (at sizes)) (at numbers) (t .key) (openSize side bound (at sides j) (at prices j) (at sizes j)) (at numbers j)) rows)) i out

@@ -1,15 +1,15 @@
--- `book::margin::in_line` meets its contract: at each order what is left is what earlier orders leave.
+-- `margin::reach::in_line` meets its contract: at each order what is left is what earlier orders leave.
 use Prim.Native.Nat.{_-_}
 use native.Mathlib.Omega.{arith}
 use borrow.Author.Needs.{needs}
-use Rattle.book.specs.FitLaws.{numbers-below}
+use Rattle.margin.specs.RangeLaws.{numbers-below}
 use Rattle.levels.specs.Levels.{keysOn, opensOn}
-use Rattle.levels.specs.MarginLaws.{Reaching, reaching-starts, best-bounds, margin-found, reaching-goes-on, margin-past}
+use Rattle.margin.specs.MarginLaws.{Reaching, reaching-starts, best-bounds, margin-found, reaching-goes-on, margin-past}
 use Rattle.rows.specs.Rows.{rows}
 use Rattle.units.specs.Picked.{same}
 use Rattle.units.specs.Places.{at}
-use Rattle.book.proofs.margin.in_line.Statement.{statement}
-use Rattle.book.proofs.margin.in_line.Tie as tie
+use Rattle.margin.proofs.reach.in_line.Statement.{statement}
+use Rattle.margin.proofs.reach.in_line.Tie as tie
 
 abbrev Inv-loop : tie.InvT-loop
 Inv-loop side bound m sides prices sizes numbers left₀ floor₀ left floor = Reaching rows (at numbers) (same (keysOn side (at prices)) (m .key) (opensOn side bound (at sides) (at prices) (at sizes))) (m .left) left floor

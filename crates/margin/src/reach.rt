@@ -12,8 +12,8 @@ ghost use Rattle.units.specs.Places.{at};
 ghost use Rattle.rows.specs.Rows.{rows};
 ghost use Rattle.rows.specs.Passes.{standing};
 ghost use Rattle.levels.specs.Levels.{keysOn, opensOn};
-ghost use Rattle.levels.specs.Margin.{AtMargin};
-ghost use Rattle.book.specs.Fit.{Priced, Numbered};
+ghost use Rattle.margin.specs.Margin.{AtMargin};
+ghost use Rattle.margin.specs.Ranges.{Priced, Numbered};
 
 // The first key whose rows hold more than what is left of the order there, and what is left.
 pub struct Margin {
@@ -47,7 +47,7 @@ fn reached(side: u32, bound: u32, q: u32, sides: &Column, prices: &Column, sizes
 }
 
 // The margin of an order of q contracts, where `all` may be traded: past every price if the order takes all of it.
-pub(crate) fn margin_of(
+pub fn margin_of(
     side: u32,
     bound: u32,
     q: u32,
@@ -71,7 +71,7 @@ pub(crate) fn margin_of(
 }
 
 // At the margin by rising order number, for as long as the order is filled whole.
-pub(crate) fn in_line(
+pub fn in_line(
     side: u32,
     bound: u32,
     m: Margin,

@@ -8,9 +8,9 @@ use Rattle.units.specs.Tests.{order, less, equal, more}
 use Rattle.units.specs.Sums.{sumTo, sum-same, sum-none}
 use Rattle.units.specs.Picked.{same, lower, lower-in, lower-out, sum-lower-next}
 use Rattle.units.specs.Leasts.{least-top, least-most, least-floor}
 use Rattle.levels.specs.Levels.{candidate, bestFrom}
 use Rattle.levels.specs.LevelLaws.{candidate-free, candidate-low, candidate-is}
-use Rattle.levels.specs.Margin.{AtMargin}
+use Rattle.margin.specs.Margin.{AtMargin}
 
 module _ (n top : ℕ) (key size : ℕ → ℕ) (floor : ℕ) where
   best-top : bestFrom n top key size floor ≤ top

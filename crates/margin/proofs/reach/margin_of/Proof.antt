@@ -1,11 +1,11 @@
--- `book::margin::margin_of` meets its contract: an order that takes all has its margin past every price.
+-- `margin::reach::margin_of` meets its contract: an order that takes all has its margin past every price.
 use native.Mathlib.Omega.{arith}
 use borrow.Author.Needs.{needs}
-use Rattle.book.specs.FitLaws.{keys-below}
-use Rattle.levels.specs.MarginLaws.{margin-of-all}
+use Rattle.margin.specs.RangeLaws.{keys-below}
+use Rattle.margin.specs.MarginLaws.{margin-of-all}
 use Rattle.rows.specs.Passes.{standing}
-use Rattle.book.proofs.margin.margin_of.Statement.{statement}
-use Rattle.book.proofs.margin.margin_of.Tie as tie
+use Rattle.margin.proofs.reach.margin_of.Statement.{statement}
+use Rattle.margin.proofs.reach.margin_of.Tie as tie
 
 pub margin-of-spec : {M : Type 1} → statement M
 unfolding standing
