@@ -17,3 +17,4 @@ pub mod RecordingLaws
 pub mod SameRecords
 pub mod TradingLaws
 pub mod Answers
+pub mod OpeningLaws
