@@ -19,7 +19,7 @@ ghost use Rattle.book.specs.Fit.{Fit};
 pub const TIME: u32 = 1;
 
 // What each row trades with an order of q contracts, where `all` may be traded.
-pub(crate) fn shares(
+pub fn shares(
     allocation: u32,
     side: u32,
     bound: u32,

@@ -26,7 +26,7 @@ pub struct Traded {
 }
 
 // Takes what each row traded out of its size.
-pub(crate) fn remove(quantities: &Column, sizes: &mut Column)
+pub fn remove(quantities: &Column, sizes: &mut Column)
     requires { ⌜ length (now sizes) ≡ rows ⌝ }
     ensures { λ _. ⌜ now (sizes .exit) ≡ table (λ i. at (now (sizes .entry)) i - at (now (quantities .entry)) i) rows ⌝ }
 {
