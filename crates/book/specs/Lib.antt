@@ -18,3 +18,5 @@ pub mod SameRecords
 pub mod TradingLaws
 pub mod Answers
 pub mod OpeningLaws
+pub mod SoundLaws
+pub mod RestLaws
