@@ -8,7 +8,7 @@ use borrow.Author.Tests.{lt-ltb, lt-leb}
 use Rattle.units.specs.Sums.{sumTo, sum-same, sum-most, sum-has, sum-tight}
 use Rattle.units.specs.Picked.{keep, same, lower, same-in, same-both, sum-lower-next, lower-grows}
 use Rattle.levels.specs.Levels.{wholeOf, wholes, larger}
-use Rattle.levels.specs.Margin.{AtMargin}
+use Rattle.margin.specs.Margin.{AtMargin}
 use Rattle.book.specs.Allocation.{Resting, Class, time, proportion, before, level, earlier, ahead, rank, left, whole, leftover, extra, fill}
 use Rattle.book.specs.AllocationLaws.{Distinct, fill-most, level-filled}
 

@@ -1,11 +1,11 @@
 -- What the functions of this crate ask of the columns that they are lent; every sound book has it.
 use mathlib.Core.Path.{_≡_}
 use mathlib.Core.List.{List}
-use Prim.Native.Nat.{ℕ, _≤_, _<_}
+use Prim.Native.Nat.{ℕ, _<_}
 use lib.ListN.{length}
 use Rattle.units.specs.Places.{at}
-use Rattle.rows.specs.Rows.{rows, highest}
-use Rattle.levels.specs.Levels.{noNumber}
+use Rattle.rows.specs.Rows.{rows}
+use Rattle.margin.specs.Ranges.{Small, Priced, Numbered}
 
 -- the columns have all their rows
 pub record Whole (sides prices sizes owners numbers : List ℕ) : Type 0 where
@@ -14,18 +14,6 @@ pub record Whole (sides prices sizes owners numbers : List ℕ) : Type 0 where
   pub sizes-long : length sizes ≡ rows
   pub owners-long : length owners ≡ rows
   pub numbers-long : length numbers ≡ rows
-
--- no row holds more than an order may
-abbrev pub Small : List ℕ → Type 0
-Small sizes = (i : ℕ) → i < rows → at sizes i ≤ 999999
-
--- no resting row is above the highest price
-abbrev pub Priced : List ℕ → List ℕ → Type 0
-Priced prices sizes = (i : ℕ) → i < rows → 0 < at sizes i → at prices i ≤ highest
-
--- no resting row is above the last order number
-abbrev pub Numbered : List ℕ → List ℕ → Type 0
-Numbered sizes numbers = (i : ℕ) → i < rows → 0 < at sizes i → at numbers i < noNumber
 
 -- no two resting rows have one number
 abbrev pub Apart : List ℕ → List ℕ → Type 0

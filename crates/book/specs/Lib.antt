@@ -10,8 +10,13 @@ pub mod Sound
 pub mod Fit
 pub mod BookLaws
 pub mod FillLaws
-pub mod Shares
 pub mod FitLaws
 pub mod ShareLaws
 pub mod Recording
 pub mod RecordingLaws
+pub mod SameRecords
+pub mod TradingLaws
+pub mod Answers
+pub mod OpeningLaws
+pub mod SoundLaws
+pub mod RestLaws

@@ -1,18 +1,19 @@
 -- What a row trades, told by the margin, is what the allocation gives it.
-use mathlib.Core.Path.{_≡_, refl, sym, _∙_}
+use mathlib.Core.Path.{_≡_, sym, _∙_}
 use mathlib.Core.List.{List, []}
-use Prim.Native.Nat.{ℕ, _+_, _<_, min}
-use native.Mathlib.Nat.{add-zero}
+use Prim.Native.Nat.{ℕ, _<_, min}
 use native.Mathlib.Omega.{arith}
-use lib.Dec.{ltb}
-use borrow.Author.Tests.{lt-ltb, le-ltb, eq-eqb, ne-eqb}
+use borrow.Author.Tests.{eq-eqb, ne-eqb}
 use Rattle.units.specs.Tests.{order, less, equal, more}
 use Rattle.units.specs.Sums.{sumTo}
-use Rattle.units.specs.Picked.{keep, same}
+use Rattle.units.specs.Picked.{same}
 use Rattle.units.specs.Places.{at, table, table-same}
 use Rattle.rows.specs.Rows.{rows}
-use Rattle.levels.specs.Levels.{wholeOf, larger}
-use Rattle.levels.specs.Margin.{AtMargin}
+use Rattle.levels.specs.Levels.{larger}
+use Rattle.margin.specs.Margin.{AtMargin}
+use Rattle.margin.specs.Shares.{toMargin, timeShare, termsAt, proportionShare}
+use Rattle.margin.specs.ShareLaws.{share-free, share-is, margin-before, margin-at, margin-beyond}
+use Rattle.margin.specs.declared.reach.Margin.{Margin}
 use Rattle.book.specs.Book.{bookOf}
 use Rattle.book.specs.Allocation.{Resting, Class, time, proportion, classOf, fill}
 use Rattle.book.specs.AllocationLaws.{Distinct}
@@ -20,35 +21,6 @@ use Rattle.book.specs.Trading.{reach}
 use Rattle.book.specs.Fit.{Apart}
 use Rattle.book.specs.FitLaws.{open-apart}
 use Rattle.book.specs.FillLaws.{fill-free, rank-is, fill-better, fill-worse, fill-earlier, fill-later, fill-last, fill-in-proportion}
-use Rattle.book.specs.Shares.{toMargin, timeShare, termsAt, shareAt, proportionShare}
-use Rattle.book.specs.declared.margin.Margin.{Margin}
-use Rattle.book.specs.declared.shares.Terms.{Terms}
-
-module _ (t : Terms) (size rank : ℕ) where
-  pub share-free : size ≡ 0 → shareAt t size rank ≡ 0
-  unfolding shareAt
-  share-free z = simp (le-ltb 0 size (omega arith))
-
-  pub share-is : 0 < size → shareAt t size rank ≡ wholeOf (t .left) size (t .total) + keep (ltb rank (t .spare)) 1
-  unfolding shareAt
-  share-is x = simp (lt-ltb 0 size x)
-
-  -- nothing was left over
-  pub share-spent : 0 < size → t .spare ≡ 0 → shareAt t size rank ≡ wholeOf (t .left) size (t .total)
-  share-spent x z = share-is x ∙ rw (le-ltb rank (t .spare) (omega arith)) (add-zero _)
-
-module _ (k m size here : ℕ) where
-  pub margin-before : k < m → toMargin k m size here ≡ size
-  unfolding toMargin
-  margin-before h = simp (lt-ltb k m h)
-
-  pub margin-at : k ≡ m → toMargin k m size here ≡ here
-  unfolding toMargin
-  margin-at h = simp (le-ltb k m (omega arith), le-ltb m k (omega arith))
-
-  pub margin-beyond : m < k → toMargin k m size here ≡ 0
-  unfolding toMargin
-  margin-beyond h = simp (le-ltb k m (omega arith), lt-ltb m k h)
 
 module _ (r : Resting) (q : ℕ) (d : Distinct r) (i : ℕ) (p : i < r .places) where
   open Resting r using (places, size, key, number)

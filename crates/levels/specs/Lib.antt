@@ -1,5 +1,3 @@
 -- What is said of the rows that share an order.
 pub mod Levels
 pub mod LevelLaws
-pub mod Margin
-pub mod MarginLaws

@@ -16,7 +16,7 @@ pub fn lesser(a: u32, b: u32) -> u32
 }
 
 // The greater of two.
-pub(crate) fn greater(a: u32, b: u32) -> u32
+pub fn greater(a: u32, b: u32) -> u32
     ensures { λ r. ⌜ r ≡ max a b ⌝ }
 {
     if a < b { b } else { a }

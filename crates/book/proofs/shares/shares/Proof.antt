@@ -2,7 +2,7 @@
 use mathlib.Core.Path.{_∙_}
 use borrow.Author.Needs.{needs}
 use Rattle.book.specs.ShareLaws.{shares-by-time, shares-in-proportion}
-use Rattle.book.specs.Shares.{termsAt}
+use Rattle.margin.specs.Shares.{termsAt}
 use Rattle.book.proofs.shares.shares.Statement.{statement}
 use Rattle.book.proofs.shares.shares.Tie as tie
 

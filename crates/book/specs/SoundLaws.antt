@@ -1,0 +1,194 @@
+-- What keeps a book sound: trading, cancelling and opening take from rows, resting fills a free one; and a sound book is fit for a match.
+use mathlib.Core.Path.{_≡_, refl, sym, ap, _∙_}
+use mathlib.Core.List.{List}
+use mathlib.Core.Bool.{Bool, true, false, _&&_}
+use mathlib.Core.Logic.{_≢_}
+use Prim.Native.Nat.{ℕ, _+_, _*_, _-_, _≤_, _<_}
+use native.Mathlib.Decide.{decLt, ℕ-discrete}
+use native.Mathlib.Omega.{arith}
+use lib.Dec.{ltb, eqb}
+use lib.ListN.{length, set, length-set}
+use lib.Seq.{getD-set-same, getD-set-other}
+use borrow.Author.Tests.{lt-ltb, le-ltb, eq-eqb, ne-eqb, eqb-true}
+use Rattle.units.specs.Tests.{order, less, equal, more}
+use Rattle.units.specs.Sums.{sumTo, sum-most, sum-same, sum-only, sum-swap, sum-changed, sum-ones, sum-le, sum-less}
+use Rattle.units.specs.Picked.{keep}
+use Rattle.units.specs.Counts.{countTo}
+use Rattle.units.specs.Firsts.{firstTo, first-holds, first-before}
+use Rattle.units.specs.Places.{at, table, table-at, table-length}
+use Rattle.rows.specs.Rows.{rows, rowsATenant, highest, restsFor}
+use Rattle.rows.specs.Passes.{restingRows, freeRow}
+use Rattle.levels.specs.Levels.{noNumber}
+use Rattle.book.specs.Book.{Book, sideAt, priceAt, sizeAt, ownerAt, numberAt, restingOf, firstFree, rested, withSizes, freed}
+use Rattle.book.specs.Trading.{afterTrade, traded}
+use Rattle.book.specs.TradingLaws.{traded-most}
+use Rattle.book.specs.Opening.{afterOpening}
+use Rattle.book.specs.OpeningLaws.{opening-most, never-locked-or-crossed}
+use Rattle.book.specs.Sound.{SoundRow, SoundBook, Uncrossed}
+use Rattle.book.specs.Fit.{Whole, Fit}
+
+-- ---- fit for a match
+
+pub sound-whole : {b : Book} {next : ℕ} → SoundBook b next → Whole (b .sides) (b .prices) (b .sizes) (b .owners) (b .numbers)
+sound-whole s = record {
+  sides-long = s .sides-long;
+  prices-long = s .prices-long;
+  sizes-long = s .sizes-long;
+  owners-long = s .owners-long;
+  numbers-long = s .numbers-long;
+}
+
+pub sound-fit : {b : Book} {next : ℕ} → SoundBook b next → next ≤ noNumber → Fit (b .prices) (b .sizes) (b .numbers)
+sound-fit s h = record {
+  sizes-long = s .sizes-long;
+  small = s .size-most;
+  priced = λ i p x. s .row i p x .price-most;
+  numbered = λ i p x. omega (arith, s .row i p x .number-most);
+  apart = s .apart;
+}
+
+-- ---- rows that a tenant has resting
+
+-- a row counts for its owner
+pub rests-one : (t owner size : ℕ) → 0 < size → owner ≡ t → keep (restsFor t owner size) 1 ≡ 1
+unfolding restsFor
+rests-one t owner size x e = simp (lt-ltb 0 size x, eq-eqb owner t e)
+
+pub rests-free : (t owner size : ℕ) → size ≡ 0 → keep (restsFor t owner size) 1 ≡ 0
+unfolding restsFor
+rests-free t owner size z = simp (le-ltb 0 size (omega arith))
+
+pub rests-other : (t owner size : ℕ) → owner ≢ t → keep (restsFor t owner size) 1 ≡ 0
+unfolding restsFor
+rests-other t owner size n = elim (order 0 size) [
+  | less x ↦ simp (lt-ltb 0 size x, ne-eqb owner t n)
+  | equal x ↦ simp (le-ltb 0 size (omega arith))
+  | more x ↦ omega arith
+]
+
+rests-less : (t owner small large : ℕ) → small ≤ large → keep (restsFor t owner small) 1 ≤ keep (restsFor t owner large) 1
+rests-less t owner small large h = elim (order 0 small) [
+  | less x ↦ elim (ℕ-discrete owner t) [
+    | yes e ↦ omega (arith, rests-one t owner small x e, rests-one t owner large (omega arith) e)
+    | no e ↦ omega (arith, rests-other t owner small e)
+  ]
+  | equal x ↦ omega (arith, rests-free t owner small (sym x))
+  | more x ↦ omega arith
+]
+
+-- where no row grows, no tenant has more rows resting
+pub resting-shrinks : (b : Book) (l : List ℕ) → ((i : ℕ) → i < b .places → at l i ≤ sizeAt b i) → (t : ℕ) → restingOf (withSizes b l) t ≤ restingOf b t
+unfolding restingRows
+resting-shrinks b l h t = sum-most (b .places) (λ i p. rests-less t (ownerAt b i) (at l i) (sizeAt b i) (h i p))
+
+-- ---- what takes from rows keeps a book sound
+
+module _ {b : Book} {next : ℕ} (s : SoundBook b next) (l : List ℕ) (long : length l ≡ rows) (less-each : (i : ℕ) → i < rows → at l i ≤ sizeAt b i) where
+  held : (i : ℕ) → i < rows → 0 < at l i → 0 < sizeAt b i
+  held i p x = omega (arith, less-each i p)
+
+  pub shrunk-sound : SoundBook (withSizes b l) next
+  shrunk-sound = record {
+    places = s .places;
+    sides-long = s .sides-long;
+    prices-long = s .prices-long;
+    sizes-long = long;
+    owners-long = s .owners-long;
+    numbers-long = s .numbers-long;
+    size-most = λ i p. omega (arith, less-each i p, s .size-most i p);
+    row = λ i p x. let r = s .row i p (held i p x) in record {
+      side-least = r .side-least;
+      side-most = r .side-most;
+      price-least = r .price-least;
+      price-most = r .price-most;
+      owner = r .owner;
+      number-least = r .number-least;
+      number-most = r .number-most;
+    };
+    apart = λ i j p p′ x y. s .apart i j p p′ (held i p x) (held j p′ y);
+    room = λ t h. omega (arith, resting-shrinks b l (λ i p. less-each i (rw (s .places) at p)) t, s .room t h);
+  }
+
+  pub shrunk-uncrossed : Uncrossed b → Uncrossed (withSizes b l)
+  shrunk-uncrossed u i j p p′ x y = u i j p p′ (held i p x) (held j p′ y)
+
+module _ {b : Book} {next : ℕ} (s : SoundBook b next) where
+  within-places : {i : ℕ} → i < rows → i < b .places
+  within-places p = omega (arith, s .places)
+
+  module _ (side bound q allocation : ℕ) where
+    abbrev after-trade : List ℕ
+    after-trade = table (λ i. sizeAt b i - traded b side bound q allocation i) (b .places)
+
+    trade-less : (i : ℕ) → i < rows → at after-trade i ≤ sizeAt b i
+    trade-less i p = omega (arith, table-at (λ j. sizeAt b j - traded b side bound q allocation j) (b .places) i (within-places p))
+
+    -- a trade keeps the book sound, and uncrossed
+    pub trade-sound : SoundBook (afterTrade b side bound q allocation) next
+    unfolding afterTrade
+    trade-sound = shrunk-sound s after-trade (table-length _ (b .places) ∙ s .places) trade-less
+
+    pub trade-uncrossed : Uncrossed b → Uncrossed (afterTrade b side bound q allocation)
+    unfolding afterTrade
+    trade-uncrossed = shrunk-uncrossed s after-trade (table-length _ (b .places) ∙ s .places) trade-less
+
+    pub trade-resting : (t : ℕ) → restingOf (afterTrade b side bound q allocation) t ≤ restingOf b t
+    unfolding afterTrade
+    trade-resting = resting-shrinks b after-trade (λ i p. trade-less i (omega (arith, s .places)))
+
+  module _ (row : ℕ) where
+    free-less : (i : ℕ) → i < rows → at (set (b .sizes) row 0) i ≤ sizeAt b i
+    free-less i p = elim (ℕ-discrete i row) [
+      | yes e ↦ rw (← e) (omega (arith, getD-set-same (b .sizes) i 0 0 (omega (arith, s .sizes-long))))
+      | no e ↦ omega (arith, getD-set-other (b .sizes) row i 0 0 e)
+    ]
+
+    -- so does a cancel
+    pub free-sound : SoundBook (freed b row) next
+    unfolding freed
+    free-sound = shrunk-sound s (set (b .sizes) row 0) (length-set (b .sizes) row 0 ∙ s .sizes-long) free-less
+
+    pub free-uncrossed : Uncrossed b → Uncrossed (freed b row)
+    unfolding freed
+    free-uncrossed = shrunk-uncrossed s (set (b .sizes) row 0) (length-set (b .sizes) row 0 ∙ s .sizes-long) free-less
+
+    pub free-resting : (t : ℕ) → restingOf (freed b row) t ≤ restingOf b t
+    unfolding freed
+    free-resting = resting-shrinks b (set (b .sizes) row 0) (λ i p. free-less i (omega (arith, s .places)))
+
+  module _ (p : ℕ) where
+    -- so does an opening, after which the book is never locked or crossed, whatever the price
+    pub opening-sound : SoundBook (afterOpening b p) next
+    unfolding afterOpening
+    opening-sound = shrunk-sound s (afterOpening b p .sizes) (table-length _ (b .places) ∙ s .places) (λ i h. opening-most b p i (within-places h))
+
+    pub opening-uncrossed : Uncrossed (afterOpening b p)
+    unfolding afterOpening
+    opening-uncrossed i j h h′ = never-locked-or-crossed b p i j (within-places h) (within-places h′)
+
+    pub opening-resting : (t : ℕ) → restingOf (afterOpening b p) t ≤ restingOf b t
+    unfolding afterOpening
+    opening-resting = resting-shrinks b (afterOpening b p .sizes) (opening-most b p)
+
+  -- soundness is kept as numbers are given
+  pub later-sound : (later : ℕ) → next ≤ later → SoundBook b later
+  later-sound later h = record {
+    places = s .places;
+    sides-long = s .sides-long;
+    prices-long = s .prices-long;
+    sizes-long = s .sizes-long;
+    owners-long = s .owners-long;
+    numbers-long = s .numbers-long;
+    size-most = s .size-most;
+    row = λ i p x. let r = s .row i p x in record {
+      side-least = r .side-least;
+      side-most = r .side-most;
+      price-least = r .price-least;
+      price-most = r .price-most;
+      owner = r .owner;
+      number-least = r .number-least;
+      number-most = omega (arith, r .number-most);
+    };
+    apart = s .apart;
+    room = s .room;
+  }

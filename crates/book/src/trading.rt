@@ -1,0 +1,90 @@
+// What an incoming order makes of the rows.
+use crate::Records;
+use crate::records::record;
+use crate::shares::shares;
+use rows::Column;
+use rows::ROWS;
+use rows::passes::standing;
+use rows::row::beyond;
+use rows::row::wide;
+use units::Cents;
+use units::Contracts;
+ghost use mathlib.Core.Path.{_≡_};
+ghost use Prim.Native.Nat.{_*_, _-_, min};
+ghost use lib.ListN.{length};
+ghost use Rattle.units.specs.Places.{at, table};
+ghost use Rattle.rows.specs.Rows.{rows};
+ghost use Rattle.book.specs.Book.{bookOf};
+ghost use Rattle.book.specs.Trading.{afterTrade, tradeWritten};
+ghost use Rattle.book.specs.Answers.{tradedOf};
+ghost use Rattle.book.specs.Fit.{Fit};
+
+// Contracts filled, and how many records were written.
+pub struct Traded {
+    pub filled: Contracts,
+    pub fills: usize,
+}
+
+// Takes what each row traded out of its size.
+pub fn remove(quantities: &Column, sizes: &mut Column)
+    requires { ⌜ length (now sizes) ≡ rows ⌝ }
+    ensures { λ _. ⌜ now (sizes .exit) ≡ table (λ i. at (now (sizes .entry)) i - at (now (quantities .entry)) i) rows ⌝ }
+{
+    let mut i: usize = 0;
+    while i < ROWS {
+        sizes[i] = beyond(sizes[i], quantities[i]);
+        i += 1;
+    }
+}
+
+// The lesser of an order's size and all that may be traded.
+fn fillable(q: u32, all: u64) -> u32
+    ensures { λ r. ⌜ r ≡ min q all ⌝ }
+{
+    if all < wide(q) { all as u32 } else { q }
+}
+
+// An order trades with the rows of one side within its bound, best price first, by the class; its records are written to the lent numbers.
+pub fn trade(
+    allocation: u32,
+    side: u32,
+    bound: Cents,
+    q: Contracts,
+    sides: &Column,
+    prices: &Column,
+    sizes: &mut Column,
+    owners: &Column,
+    numbers: &Column,
+    lent: &mut Records,
+) -> Traded
+    requires { ⌜ Fit (now prices) (now sizes) (now numbers) ⌝ }
+    requires { ⌜ length (now lent) ≡ 4 * rows ⌝ }
+    ensures { λ _. ⌜ bookOf (now (sides .entry)) (now (prices .entry)) (now (sizes .exit)) (now (owners .entry)) (now (numbers .entry)) ≡ afterTrade (bookOf (now (sides .entry)) (now (prices .entry)) (now (sizes .entry)) (now (owners .entry)) (now (numbers .entry))) side (bound .0) (q .0) allocation ⌝ }
+    ensures { λ _. ⌜ now (lent .exit) ≡ tradeWritten (bookOf (now (sides .entry)) (now (prices .entry)) (now (sizes .entry)) (now (owners .entry)) (now (numbers .entry))) side (bound .0) (q .0) allocation (now (lent .entry)) ⌝ }
+    ensures { λ r. ⌜ r ≡ tradedOf (bookOf (now (sides .entry)) (now (prices .entry)) (now (sizes .entry)) (now (owners .entry)) (now (numbers .entry))) side (bound .0) (q .0) allocation ⌝ }
+{
+    let all = standing(side, bound.0, sides, prices, sizes);
+    if all == 0 {
+        return Traded {
+            filled: Contracts(0),
+            fills: 0,
+        };
+    }
+    let quantities = shares(
+        allocation,
+        side,
+        bound.0,
+        q.0,
+        all,
+        sides,
+        prices,
+        sizes,
+        numbers,
+    );
+    let fills = record(prices, sides, prices, &quantities, owners, numbers, lent);
+    remove(&quantities, sizes);
+    Traded {
+        filled: Contracts(fillable(q.0, all)),
+        fills: fills,
+    }
+}

@@ -1,0 +1,101 @@
+// How far an order reaches: price by price, and at the last price order by order.
+use levels::passes::best_from;
+use levels::passes::held_by;
+use levels::passes::level;
+use levels::passes::next_from;
+use rows::Column;
+use rows::NO_PRICE;
+use rows::row::wide;
+ghost use mathlib.Core.Path.{_≡_};
+ghost use Rattle.units.specs.Picked.{same};
+ghost use Rattle.units.specs.Places.{at};
+ghost use Rattle.rows.specs.Rows.{rows};
+ghost use Rattle.rows.specs.Passes.{standing};
+ghost use Rattle.levels.specs.Levels.{keysOn, opensOn};
+ghost use Rattle.margin.specs.Margin.{AtMargin};
+ghost use Rattle.margin.specs.Ranges.{Priced, Numbered};
+
+// The first key whose rows hold more than what is left of the order there, and what is left.
+pub struct Margin {
+    pub key: u64,
+    pub left: u32,
+}
+
+// Past every order number.
+const NO_NUMBER: u64 = 4294967296;
+
+// Price by price, best first, for as long as the price is filled whole.
+fn reached(side: u32, bound: u32, q: u32, sides: &Column, prices: &Column, sizes: &Column) -> Margin
+    requires { ⌜ Priced (now prices) (now sizes) ⌝ }
+    ensures { λ r. ⌜ AtMargin rows (keysOn side (at (now (prices .entry)))) (opensOn side bound (at (now (sides .entry))) (at (now (prices .entry))) (at (now (sizes .entry)))) q (r .key) (r .left) ⌝ }
+{
+    let mut left: u32 = q;
+    let mut floor: u64 = 0;
+    while floor < 1000001 {
+        let k = best_from(side, bound, floor, sides, prices, sizes);
+        let total = level(side, bound, k, sides, prices, sizes);
+        if wide(left) < total {
+            return Margin { key: k, left: left };
+        }
+        left -= total as u32;
+        floor = k + 1;
+    }
+    Margin {
+        key: floor,
+        left: left,
+    }
+}
+
+// The margin of an order of q contracts, where `all` may be traded: past every price if the order takes all of it.
+pub fn margin_of(
+    side: u32,
+    bound: u32,
+    q: u32,
+    all: u64,
+    sides: &Column,
+    prices: &Column,
+    sizes: &Column,
+) -> Margin
+    requires { ⌜ Priced (now prices) (now sizes) ⌝ }
+    requires { ⌜ all ≡ standing rows (at (now sides)) (at (now prices)) (at (now sizes)) side bound ⌝ }
+    ensures { λ r. ⌜ AtMargin rows (keysOn side (at (now (prices .entry)))) (opensOn side bound (at (now (sides .entry))) (at (now (prices .entry))) (at (now (sizes .entry)))) q (r .key) (r .left) ⌝ }
+{
+    if all <= wide(q) {
+        Margin {
+            key: wide(NO_PRICE),
+            left: q - all as u32,
+        }
+    } else {
+        reached(side, bound, q, sides, prices, sizes)
+    }
+}
+
+// At the margin by rising order number, for as long as the order is filled whole.
+pub fn in_line(
+    side: u32,
+    bound: u32,
+    m: Margin,
+    sides: &Column,
+    prices: &Column,
+    sizes: &Column,
+    numbers: &Column,
+) -> Margin
+    requires { ⌜ Numbered (now sizes) (now numbers) ⌝ }
+    ensures { λ r. ⌜ AtMargin rows (at (now (numbers .entry))) (same (keysOn side (at (now (prices .entry)))) (m .key) (opensOn side bound (at (now (sides .entry))) (at (now (prices .entry))) (at (now (sizes .entry))))) (m .left) (r .key) (r .left) ⌝ }
+{
+    let mut left: u32 = m.left;
+    let mut floor: u64 = 0;
+    while floor < NO_NUMBER {
+        let n = next_from(side, bound, m.key, floor, sides, prices, sizes, numbers);
+        let size = held_by(side, bound, m.key, n, sides, prices, sizes, numbers);
+        if wide(left) < size {
+            return Margin { key: n, left: left };
+        }
+        left -= size as u32;
+        floor = n + 1;
+    }
+    Margin {
+        key: floor,
+        left: left,
+    }
+}

@@ -1,0 +1,88 @@
+// What an opening cancels, told by what the fills left.
+use rows::BUY;
+use rows::Column;
+use rows::ROWS;
+use rows::SELL;
+use rows::passes::highest_buy;
+use rows::passes::lowest_sell;
+use rows::passes::standing;
+ghost use mathlib.Core.Path.{_≡_};
+ghost use lib.ListN.{length};
+ghost use Rattle.units.specs.Places.{at, table};
+ghost use Rattle.rows.specs.Rows.{rows};
+ghost use Rattle.opening.specs.Cancels.{buyCut, sellCut, keptBy, cutOf};
+
+// Which rows are cancelled: buys from the lowest sell up, if buys remain that might have traded; sells from the highest buy down, if such sells do.
+pub struct Cut {
+    pub buys: bool,
+    pub lowest: u32,
+    pub sells: bool,
+    pub highest: u32,
+}
+
+fn cut_at(price: u32, sides: &Column, prices: &Column, sizes: &Column) -> Cut
+    ensures { λ r. ⌜ r ≡ cutOf rows (at (now (sides .entry))) (at (now (prices .entry))) (at (now (sizes .entry))) price ⌝ }
+{
+    let buys = standing(BUY, price, sides, prices, sizes);
+    let sells = standing(SELL, price, sides, prices, sizes);
+    let low = lowest_sell(sides, prices, sizes);
+    let high = highest_buy(sides, prices, sizes);
+    Cut {
+        buys: 0 < buys,
+        lowest: low,
+        sells: 0 < sells,
+        highest: high,
+    }
+}
+
+// Whether a buy is cancelled.
+fn buy_cut(cut: Cut, side: u32, price: u32) -> bool
+    ensures { λ r. ⌜ r ≡ buyCut cut side price ⌝ }
+{
+    let buys = cut.buys;
+    if side == BUY {
+        if buys { cut.lowest <= price } else { false }
+    } else {
+        false
+    }
+}
+
+// Whether a sell is cancelled.
+fn sell_cut(cut: Cut, side: u32, price: u32) -> bool
+    ensures { λ r. ⌜ r ≡ sellCut cut side price ⌝ }
+{
+    let sells = cut.sells;
+    if side == SELL {
+        if sells { price <= cut.highest } else { false }
+    } else {
+        false
+    }
+}
+
+// What the cancels leave of a row.
+fn kept(cut: Cut, side: u32, price: u32, size: u32) -> u32
+    ensures { λ r. ⌜ r ≡ keptBy cut side price size ⌝ }
+{
+    let buy = buy_cut(cut, side, price);
+    let sell = sell_cut(cut, side, price);
+    if buy {
+        0
+    } else if sell {
+        0
+    } else {
+        size
+    }
+}
+
+// Cancels what would lock or cross the open book.
+pub(crate) fn cancel(price: u32, sides: &Column, prices: &Column, sizes: &mut Column)
+    requires { ⌜ length (now sizes) ≡ rows ⌝ }
+    ensures { λ _. ⌜ now (sizes .exit) ≡ table (λ i. keptBy (cutOf rows (at (now (sides .entry))) (at (now (prices .entry))) (at (now (sizes .entry))) price) (at (now (sides .entry)) i) (at (now (prices .entry)) i) (at (now (sizes .entry)) i)) rows ⌝ }
+{
+    let cut = cut_at(price, sides, prices, sizes);
+    let mut i: usize = 0;
+    while i < ROWS {
+        sizes[i] = kept(cut, sides[i], prices[i], sizes[i]);
+        i += 1;
+    }
+}

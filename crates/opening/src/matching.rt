@@ -1,0 +1,110 @@
+// The match of an opening at a price.
+use crate::cancels::cancel;
+use book::Records;
+use book::records::record;
+use book::shares::TIME;
+use book::shares::shares;
+use book::trading::remove;
+use rows::BUY;
+use rows::Column;
+use rows::ROWS;
+use rows::SELL;
+use rows::passes::standing;
+use rows::row::greater;
+use units::Cents;
+use units::Contracts;
+ghost use mathlib.Core.Path.{_≡_};
+ghost use mathlib.Core.List.{[]};
+ghost use Prim.Native.Nat.{_*_, _≤_, min, max};
+ghost use lib.ListN.{length};
+ghost use Rattle.units.specs.Places.{at, table};
+ghost use Rattle.rows.specs.Rows.{rows};
+ghost use Rattle.rows.specs.Passes.{standing};
+ghost use Rattle.book.specs.Book.{bookOf};
+ghost use Rattle.book.specs.Allocation.{time, fill};
+ghost use Rattle.book.specs.Trading.{reach};
+ghost use Rattle.book.specs.Opening.{afterOpening, openingWritten};
+ghost use Rattle.book.specs.Fit.{Fit};
+ghost use Rattle.opening.specs.Answers.{matchedOf};
+
+// Contracts matched, and how many records were written.
+pub struct Matched {
+    pub volume: Contracts,
+    pub fills: usize,
+}
+
+// Row by row the greater of two, where one of them is 0.
+fn join(a: &Column, b: &Column) -> Column
+    ensures { λ r. ⌜ r ≡ table (λ i. max (at (now (a .entry)) i) (at (now (b .entry)) i)) rows ⌝ }
+{
+    let mut out = [0u32; 216];
+    let mut i: usize = 0;
+    while i < ROWS {
+        out[i] = greater(a[i], b[i]);
+        i += 1;
+    }
+    out
+}
+
+// The lesser of what may be bought and what may be sold.
+fn lesser_of(buys: u64, sells: u64) -> u32
+    requires { ⌜ min buys sells ≤ 4294967295 ⌝ }
+    ensures { λ r. ⌜ r ≡ min buys sells ⌝ }
+{
+    if buys < sells {
+        buys as u32
+    } else {
+        sells as u32
+    }
+}
+
+// What each row trades where both sides fill q contracts, by time in every class.
+fn fills_at(
+    price: u32,
+    q: u32,
+    buys: u64,
+    sells: u64,
+    sides: &Column,
+    prices: &Column,
+    sizes: &Column,
+    numbers: &Column,
+) -> Column
+    requires { ⌜ Fit (now prices) (now sizes) (now numbers) ⌝ }
+    requires { ⌜ buys ≡ standing rows (at (now sides)) (at (now prices)) (at (now sizes)) 1 price ⌝ }
+    requires { ⌜ sells ≡ standing rows (at (now sides)) (at (now prices)) (at (now sizes)) 2 price ⌝ }
+    ensures { λ r. ⌜ r ≡ table (λ i. max (fill (reach (bookOf (now (sides .entry)) (now (prices .entry)) (now (sizes .entry)) [] (now (numbers .entry))) 1 price) q time i) (fill (reach (bookOf (now (sides .entry)) (now (prices .entry)) (now (sizes .entry)) [] (now (numbers .entry))) 2 price) q time i)) rows ⌝ }
+{
+    let bought = shares(TIME, BUY, price, q, buys, sides, prices, sizes, numbers);
+    let sold = shares(TIME, SELL, price, q, sells, sides, prices, sizes, numbers);
+    join(&bought, &sold)
+}
+
+// The opening at a price: each side fills the volume, what would lock or cross the book is cancelled, and the records are written, all at the price.
+pub fn open_at(
+    price: Cents,
+    sides: &Column,
+    prices: &Column,
+    sizes: &mut Column,
+    owners: &Column,
+    numbers: &Column,
+    lent: &mut Records,
+) -> Matched
+    requires { ⌜ Fit (now prices) (now sizes) (now numbers) ⌝ }
+    requires { ⌜ length (now lent) ≡ 4 * rows ⌝ }
+    ensures { λ _. ⌜ bookOf (now (sides .entry)) (now (prices .entry)) (now (sizes .exit)) (now (owners .entry)) (now (numbers .entry)) ≡ afterOpening (bookOf (now (sides .entry)) (now (prices .entry)) (now (sizes .entry)) (now (owners .entry)) (now (numbers .entry))) (price .0) ⌝ }
+    ensures { λ _. ⌜ now (lent .exit) ≡ openingWritten (bookOf (now (sides .entry)) (now (prices .entry)) (now (sizes .entry)) (now (owners .entry)) (now (numbers .entry))) (price .0) (now (lent .entry)) ⌝ }
+    ensures { λ r. ⌜ r ≡ matchedOf (bookOf (now (sides .entry)) (now (prices .entry)) (now (sizes .entry)) (now (owners .entry)) (now (numbers .entry))) (price .0) ⌝ }
+{
+    let buys = standing(BUY, price.0, sides, prices, sizes);
+    let sells = standing(SELL, price.0, sides, prices, sizes);
+    let q = lesser_of(buys, sells);
+    let traded = fills_at(price.0, q, buys, sells, sides, prices, sizes, numbers);
+    let paid = [price.0; 216];
+    let fills = record(&paid, sides, prices, &traded, owners, numbers, lent);
+    remove(&traded, sizes);
+    cancel(price.0, sides, prices, sizes);
+    Matched {
+        volume: Contracts(q),
+        fills: fills,
+    }
+}
