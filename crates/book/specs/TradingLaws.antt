@@ -4,7 +4,7 @@ use mathlib.Core.List.{List, []}
 use Prim.Native.Nat.{ℕ, _*_, _-_, _/_, _≤_, _<_, min}
 use native.Mathlib.Decide.{ℕ-discrete}
 use native.Mathlib.Omega.{arith}
-use lib.ListN.{length}
+use lib.ListN.{length, replicate, length-replicate, getD-replicate}
 use borrow.Author.Tests.{le-ltb, ne-eqb}
 use Rattle.units.specs.Sums.{sumTo, sum-none, sum-has}
 use Rattle.units.specs.Picked.{precedes}
@@ -89,6 +89,10 @@ module _ (sides prices sizes owners numbers : List ℕ) (fit : Fit prices sizes 
     on-side : (i : ℕ) → i < rows → 0 < at qs i → at sides i ≡ side
     on-side i p x = traded-side b side bound q allocation i (omega (arith, quantity-is i p))
 
+    pub trade-shares : qs ≡ table t rows
+    unfolding traded
+    trade-shares = are
+
     pub trade-leaves : (l : List ℕ) → l ≡ table (λ i. at sizes i - at qs i) rows → bookOf sides prices l owners numbers ≡ afterTrade b side bound q allocation
     unfolding afterTrade
     trade-leaves l e =
@@ -114,6 +118,9 @@ module _ (sides prices sizes owners numbers : List ℕ) (fit : Fit prices sizes 
   module _ (nothing : withinBound b side bound ≡ 0) where
     none-traded : (i : ℕ) → i < rows → t i ≡ 0
     none-traded = nothing-traded b side bound q allocation nothing
+
+    pub nothing-shared : replicate rows 0 ≡ table t rows
+    nothing-shared = table-is t (replicate rows 0) rows (length-replicate {A = ℕ} rows 0) (λ i p. getD-replicate {A = ℕ} rows i 0 0 p ∙ sym (none-traded i p))
 
     pub nothing-left : b ≡ afterTrade b side bound q allocation
     unfolding afterTrade

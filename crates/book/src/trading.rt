@@ -15,7 +15,7 @@ ghost use lib.ListN.{length};
 ghost use Rattle.units.specs.Places.{at, table};
 ghost use Rattle.rows.specs.Rows.{rows};
 ghost use Rattle.book.specs.Book.{bookOf};
-ghost use Rattle.book.specs.Trading.{afterTrade, tradeWritten};
+ghost use Rattle.book.specs.Trading.{traded, afterTrade, tradeWritten};
 ghost use Rattle.book.specs.Answers.{tradedOf};
 ghost use Rattle.book.specs.Fit.{Fit};
 
@@ -44,7 +44,8 @@ fn fillable(q: u32, all: u64) -> u32
     if all < wide(q) { all as u32 } else { q }
 }
 
-// An order trades with the rows of one side within its bound, best price first, by the class; its records are written to the lent numbers.
+// An order trades with the rows of one side within its bound, best price first, by the class; what each row trades and the records are written to
+// the lent memory.
 pub fn trade(
     allocation: u32,
     side: u32,
@@ -55,16 +56,19 @@ pub fn trade(
     sizes: &mut Column,
     owners: &Column,
     numbers: &Column,
+    shared: &mut Column,
     lent: &mut Records,
 ) -> Traded
     requires { ⌜ Fit (now prices) (now sizes) (now numbers) ⌝ }
     requires { ⌜ length (now lent) ≡ 4 * rows ⌝ }
     ensures { λ _. ⌜ bookOf (now (sides .entry)) (now (prices .entry)) (now (sizes .exit)) (now (owners .entry)) (now (numbers .entry)) ≡ afterTrade (bookOf (now (sides .entry)) (now (prices .entry)) (now (sizes .entry)) (now (owners .entry)) (now (numbers .entry))) side (bound .0) (q .0) allocation ⌝ }
     ensures { λ _. ⌜ now (lent .exit) ≡ tradeWritten (bookOf (now (sides .entry)) (now (prices .entry)) (now (sizes .entry)) (now (owners .entry)) (now (numbers .entry))) side (bound .0) (q .0) allocation (now (lent .entry)) ⌝ }
+    ensures { λ _. ⌜ now (shared .exit) ≡ table (traded (bookOf (now (sides .entry)) (now (prices .entry)) (now (sizes .entry)) (now (owners .entry)) (now (numbers .entry))) side (bound .0) (q .0) allocation) rows ⌝ }
     ensures { λ r. ⌜ r ≡ tradedOf (bookOf (now (sides .entry)) (now (prices .entry)) (now (sizes .entry)) (now (owners .entry)) (now (numbers .entry))) side (bound .0) (q .0) allocation ⌝ }
 {
     let all = standing(side, bound.0, sides, prices, sizes);
     if all == 0 {
+        *shared = [0u32; 216];
         return Traded {
             filled: Contracts(0),
             fills: 0,
@@ -81,8 +85,9 @@ pub fn trade(
         sizes,
         numbers,
     );
-    let fills = record(prices, sides, prices, &quantities, owners, numbers, lent);
-    remove(&quantities, sizes);
+    *shared = quantities;
+    let fills = record(prices, sides, prices, shared, owners, numbers, lent);
+    remove(shared, sizes);
     Traded {
         filled: Contracts(fillable(q.0, all)),
         fills: fills,

@@ -7,7 +7,7 @@ use native.Mathlib.Omega.{arith}
 use lib.ListN.{length, replicate, getD-replicate}
 use Rattle.units.specs.Sums.{sum-le}
 use Rattle.units.specs.Units.{contracts}
-use Rattle.units.specs.Places.{at, table, table-at, table-length, table-same}
+use Rattle.units.specs.Places.{at, table, table-is, table-at, table-length, table-same}
 use Rattle.rows.specs.Rows.{rows, openSize}
 use Rattle.rows.specs.Passes.{standing}
 use Rattle.margin.specs.Ranges.{Small}
@@ -35,6 +35,9 @@ standing-small s p sides prices sizes small =
 pub volume-fits : (p : ℕ) (sides prices sizes : List ℕ) (buys sells : ℕ) → Small sizes
     → buys ≡ standing rows (at sides) (at prices) (at sizes) 1 p → min buys sells ≤ 4294967295
 volume-fits p sides prices sizes buys sells small e = omega (arith, standing-small 1 p sides prices sizes small)
+
+pub table-long : (f : ℕ → ℕ) (l : List ℕ) → l ≡ table f rows → length l ≡ rows
+table-long f l e = rw e (table-length f rows)
 
 module _ (sides prices sizes owners numbers : List ℕ) (fit : Fit prices sizes numbers) (p : ℕ) where
   abbrev b : Book
@@ -86,6 +89,9 @@ module _ (sides prices sizes owners numbers : List ℕ) (fit : Fit prices sizes 
           (at owners) (at (replicate rows p)) (λ _. p) (λ i h. getD-replicate {A = ℕ} rows i p 0 h) was
 
       -- the sizes after the fills, and after the cancels
+      pub opening-shares : qs ≡ table (matched b p) rows
+      opening-shares = table-is (matched b p) qs rows (table-long _ qs are) quantity-is
+
       module _ (l : List ℕ) (left : l ≡ table (λ i. at sizes i - at qs i) rows) where
         fills-leave : l ≡ table (λ i. at sizes i - matched b p i) rows
         fills-leave = left ∙ table-same rows (λ i h. ap (λ x. at sizes i - x) (quantity-is i h))
@@ -101,9 +107,6 @@ module _ (sides prices sizes owners numbers : List ℕ) (fit : Fit prices sizes 
       opening-answers n e =
           let counts = opening-counts n e in
           λ j. record { volume = contracts (volume-is j); fills = counts j }
-
-pub table-long : (f : ℕ → ℕ) (l : List ℕ) → l ≡ table f rows → length l ≡ rows
-table-long f l e = rw e (table-length f rows)
 
 pub joined : (f g : ℕ → ℕ) (x y : List ℕ) → x ≡ table f rows → y ≡ table g rows → table (λ i. max (at x i) (at y i)) rows ≡ table (λ i. max (f i) (g i)) rows
 joined f g x y e e′ = rw (e, e′) (table-same rows (λ i h. rw (table-at f rows i h, table-at g rows i h)))

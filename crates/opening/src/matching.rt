@@ -23,7 +23,7 @@ ghost use Rattle.rows.specs.Passes.{standing};
 ghost use Rattle.book.specs.Book.{bookOf};
 ghost use Rattle.book.specs.Allocation.{time, fill};
 ghost use Rattle.book.specs.Trading.{reach};
-ghost use Rattle.book.specs.Opening.{afterOpening, openingWritten};
+ghost use Rattle.book.specs.Opening.{matched, afterOpening, openingWritten};
 ghost use Rattle.book.specs.Fit.{Fit};
 ghost use Rattle.opening.specs.Answers.{matchedOf};
 
@@ -79,7 +79,8 @@ fn fills_at(
     join(&bought, &sold)
 }
 
-// The opening at a price: each side fills the volume, what would lock or cross the book is cancelled, and the records are written, all at the price.
+// The opening at a price: each side fills the volume, what would lock or cross the book is cancelled; what each row trades and the
+// records, all at the price, are written to the lent memory.
 pub fn open_at(
     price: Cents,
     sides: &Column,
@@ -87,12 +88,14 @@ pub fn open_at(
     sizes: &mut Column,
     owners: &Column,
     numbers: &Column,
+    shared: &mut Column,
     lent: &mut Records,
 ) -> Matched
     requires { ⌜ Fit (now prices) (now sizes) (now numbers) ⌝ }
     requires { ⌜ length (now lent) ≡ 4 * rows ⌝ }
     ensures { λ _. ⌜ bookOf (now (sides .entry)) (now (prices .entry)) (now (sizes .exit)) (now (owners .entry)) (now (numbers .entry)) ≡ afterOpening (bookOf (now (sides .entry)) (now (prices .entry)) (now (sizes .entry)) (now (owners .entry)) (now (numbers .entry))) (price .0) ⌝ }
     ensures { λ _. ⌜ now (lent .exit) ≡ openingWritten (bookOf (now (sides .entry)) (now (prices .entry)) (now (sizes .entry)) (now (owners .entry)) (now (numbers .entry))) (price .0) (now (lent .entry)) ⌝ }
+    ensures { λ _. ⌜ now (shared .exit) ≡ table (matched (bookOf (now (sides .entry)) (now (prices .entry)) (now (sizes .entry)) (now (owners .entry)) (now (numbers .entry))) (price .0)) rows ⌝ }
     ensures { λ r. ⌜ r ≡ matchedOf (bookOf (now (sides .entry)) (now (prices .entry)) (now (sizes .entry)) (now (owners .entry)) (now (numbers .entry))) (price .0) ⌝ }
 {
     let buys = standing(BUY, price.0, sides, prices, sizes);
@@ -100,8 +103,9 @@ pub fn open_at(
     let q = lesser_of(buys, sells);
     let traded = fills_at(price.0, q, buys, sells, sides, prices, sizes, numbers);
     let paid = [price.0; 216];
-    let fills = record(&paid, sides, prices, &traded, owners, numbers, lent);
-    remove(&traded, sizes);
+    *shared = traded;
+    let fills = record(&paid, sides, prices, shared, owners, numbers, lent);
+    remove(shared, sizes);
     cancel(price.0, sides, prices, sizes);
     Matched {
         volume: Contracts(q),
