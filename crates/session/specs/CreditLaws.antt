@@ -17,11 +17,11 @@ use Rattle.tally.specs.TallyLaws.{added-length, added-same, added-none, added-t
 use Rattle.session.specs.Credit.{rowCredit, CanCredit, shareTo, creditedTo, credited, Creditable}
 
 -- nothing for anybody
-only-none : (who u : ℕ) → onlyFor who 0 u ≡ 0
+pub only-none : (who u : ℕ) → onlyFor who 0 u ≡ 0
 only-none who u = keep-none (eqb u who)
 
 -- all that is for one tenant
-only-sum : (who n : ℕ) → who < 9 → sumTo (onlyFor who n) 9 ≡ n
+pub only-sum : (who n : ℕ) → who < 9 → sumTo (onlyFor who n) 9 ≡ n
 only-sum who n h = sum-only (onlyFor who n) 9 who h (λ u _ d. only-other who n u d) ∙ only-own who n
 
 module _ (tallies : List Tally) (side owner quantity : ℕ) where

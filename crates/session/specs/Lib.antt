@@ -4,6 +4,10 @@ pub mod Settings
 pub mod SettingsLaws
 pub mod Submit
 pub mod SubmitLaws
+pub mod Opposite
+pub mod Resting
+pub mod Settle
+pub mod SettleLaws
 pub mod Credit
 pub mod CreditLaws
 pub mod Turn

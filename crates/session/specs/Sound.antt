@@ -4,10 +4,7 @@ use mathlib.Core.Bool.{true, false}
 use mathlib.Core.List.{List}
 use Prim.Native.Nat.{ℕ, _+_, _*_, _-_, _≤_, _<_}
 use lib.ListN.{length}
-use Rattle.units.specs.Sums.{sumTo}
-use Rattle.units.specs.Picked.{same}
 use Rattle.rows.specs.Rows.{highest}
-use Rattle.book.specs.Book.{Book, sideAt, sizeAt}
 use Rattle.book.specs.Sound.{SoundBook, Uncrossed}
 use Rattle.judge.specs.declared.Terms.{Terms}
 use Rattle.judge.specs.declared.Away.{Away}
@@ -18,11 +15,8 @@ use Rattle.tally.specs.Tallies.{turnsInAll, boughtInAll, soldInAll, Fitting}
 use Rattle.lanes.specs.Ring.{tenants, depth, allEntries, headOf, lenOf, waitingAt}
 use Rattle.session.specs.declared.Session.{Session}
 use Rattle.session.specs.Market.{Market}
+use Rattle.session.specs.Resting.{restingOn}
 use Rattle.session.specs.Turn.{mostTurns}
-
--- contracts resting on a side
-unfoldable pub restingOn : Book → ℕ → ℕ
-restingOn b side = sumTo (same (sideAt b) side (sizeAt b)) (b .places)
 
 -- accepted terms are in range
 pub record SoundTerms (t : Terms) : Type 0 where

@@ -9,7 +9,7 @@ use Rattle.units.specs.Tests.{pick}
 use Rattle.units.specs.Cases.{Case, _when_, firstOf}
 use Rattle.rows.specs.Rows.{rows}
 use Rattle.book.specs.Book.{Book, bestBid, bestOffer, restingOf, rowOf, rested, freed}
-use Rattle.book.specs.Trading.{ofTenant, traded, filled, afterTrade, tradeRecords, tradeWritten}
+use Rattle.book.specs.Trading.{filled, afterTrade, tradeRecords, tradeWritten}
 use Rattle.judge.specs.declared.Entry.{Entry}
 use Rattle.judge.specs.declared.Quotes.{Quotes}
 use Rattle.judge.specs.declared.Standing.{Standing}
@@ -24,12 +24,14 @@ use Rattle.lanes.specs.declared.Served.the-variants.{Lane, Nobody}
 use Rattle.lanes.specs.Ring.{waitingAt, taken}
 use Rattle.lanes.specs.Rotation.{served}
 use Rattle.tally.specs.declared.Tally.{Tally}
-use Rattle.tally.specs.Tallies.{added, counted, onlyFor, turnsInAll}
+use Rattle.tally.specs.Tallies.{counted, turnsInAll}
 use Rattle.session.specs.declared.Session.{Session}
 use Rattle.session.specs.declared.Turned.{Turned}
 use Rattle.session.specs.declared.TurnAnswer.{TurnAnswer}
 use Rattle.session.specs.declared.TurnAnswer.the-variants as answer
 use Rattle.session.specs.Market.{Market, marketOf, unset}
+use Rattle.session.specs.Opposite.{opposite}
+use Rattle.session.specs.Settle.{talliesAfter}
 
 -- what a turn makes of a market and of the fill records lent to it, and what it answers
 pub record TurnDone : Type 0 where
@@ -152,17 +154,10 @@ restTurn m t was e = record {
   records = was;
 }
 
--- the side that an order trades with
-abbrev pub opposite : Entry → ℕ
-opposite e = pick (isBuy e) 2 1
-
 module _ (m : Market) (t : ℕ) (was : List ℕ) (e : Entry) (bound : Cents) where
   -- the order trades with opposite rows within the bound
   unfoldable pub filledOf : ℕ
   filledOf = filled (m .book) (opposite e) (bound .0) (e .size .0)
-
-  abbrev pub tradedOf : ℕ → ℕ
-  tradedOf = traded (m .book) (opposite e) (bound .0) (e .size .0) (m .session .terms .allocation)
 
   unfoldable pub dispositionIn : ℕ
   dispositionIn = dispositionOf e (quotesIn m) (m .session .terms) (contracts (e .size .0 - filledOf))
@@ -175,23 +170,12 @@ module _ (m : Market) (t : ℕ) (was : List ℕ) (e : Entry) (bound : Cents) whe
   bookAfter =
       pick (eqb dispositionIn 1) (rested bookTraded (e .side) (e .price .0) (e .size .0 - filledOf) t (m .session .next)) bookTraded
 
-  -- contracts that tenant u's resting rows traded, and what the incoming order adds for its own tenant
-  unfoldable pub restingShare : ℕ → ℕ
-  restingShare u = ofTenant (m .book) u tradedOf
-
-  abbrev pub incomingShare : ℕ → ℕ
-  incomingShare = onlyFor t filledOf
-
-  -- contracts bought and sold, of resting and incoming orders
-  unfoldable pub talliesAfter : List Tally
-  talliesAfter =
-      pick (isBuy e) (added (λ u. 0) incomingShare restingShare (m .session .tallies))
-      (added (λ u. 0) restingShare incomingShare (m .session .tallies))
-
   -- an order that trades is given the next number
   unfoldable pub tradeTurn : TurnDone
   tradeTurn = record {
-    market = tradedTo m bookAfter (m .session .next + 1) talliesAfter;
+    market =
+        tradedTo m bookAfter (m .session .next + 1)
+        (talliesAfter (m .session .tallies) t e (m .book) (bound .0) (m .session .terms .allocation));
     answer =
         answer.Accepted t (m .session .next) (contracts filledOf) dispositionIn
         (tradeRecords (m .book) (opposite e) (bound .0) (e .size .0) (m .session .terms .allocation));

@@ -10,7 +10,7 @@ ghost use Rattle.tally.specs.Tallies.{added};
 ghost use Rattle.session.specs.Credit.{rowCredit, CanCredit, credited, Creditable};
 
 // One row's contracts, bought if it is a buy and else sold, for its owner.
-fn credit_row(tallies: [Tally; 9], side: u32, owner: u32, quantity: u32) -> [Tally; 9]
+pub(crate) fn credit_row(tallies: [Tally; 9], side: u32, owner: u32, quantity: u32) -> [Tally; 9]
     requires { ⌜ CanCredit tallies side owner quantity ⌝ }
     ensures { λ r. ⌜ r ≡ rowCredit tallies side owner quantity ⌝ }
 {
