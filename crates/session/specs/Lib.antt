@@ -12,5 +12,6 @@ pub mod Credit
 pub mod CreditLaws
 pub mod Turn
 pub mod TurnLaws
+pub mod TradeTurn
 pub mod Opening
 pub mod Sound

@@ -201,4 +201,3 @@ module _ (tallies : List Tally) (t : ℕ) (e : Entry) (b : Book) (was : List ℕ
         let ts : all ≡ talliesAfter tallies t e b bound allocation
         = all-is ∙ (rw (own-is, fills-are .0) (settled-tallies tallies t e b was can bound allocation shared shares-are)) in
         λ i. record { tallies = ts i; filled = contracts (fills-are .0 i); fills = fills-are .1 i }
-

@@ -1,8 +1,8 @@
 // The session: settings, away quote, book, lanes, rotation and tallies of one option series, and the five calls on it.
 pub mod away;
 mod credit;
-mod settle;
 pub mod settings;
+mod settle;
 pub mod submit;
 pub mod turn;
 

@@ -2,21 +2,27 @@
 use crate::Session;
 use crate::TurnAnswer;
 use crate::Turned;
+use crate::settle::settle;
+use book::Records;
 use book::resting::free;
 use book::resting::rest;
 use judge::Entry;
+use judge::Quotes;
+use judge::disposition::disposition;
 use lanes::Served;
 use lanes::ring::taken;
 use lanes::rotation::served;
 use rows::Column;
 use rows::ROWS;
 use rows::passes::order_row;
+use tally::Tally;
 use tally::count;
 use tally::turns_in_all;
+use units::Cents;
 use units::Contracts;
 ghost use mathlib.Core.Path.{_≡_};
 ghost use mathlib.Core.List.{List};
-ghost use Prim.Native.Nat.{ℕ, _<_, _≤_};
+ghost use Prim.Native.Nat.{ℕ, _+_, _<_, _≤_};
 ghost use lib.ListN.{length};
 ghost use Rattle.rows.specs.Rows.{rows};
 ghost use Rattle.book.specs.Book.{bookOf};
@@ -26,7 +32,8 @@ ghost use Rattle.tally.specs.Tallies.{Countable};
 ghost use Rattle.judge.specs.Numbers.{lastNumber};
 ghost use Rattle.session.specs.Market.{marketOf};
 ghost use Rattle.session.specs.Sound.{TurnsHeld};
-ghost use Rattle.session.specs.Turn.{turnRefusal, afterTaking, turnDone, cancelTurn, restTurn};
+ghost use Rattle.session.specs.Turn.{turnRefusal, afterTaking, turnDone, cancelTurn, restTurn, numbered, tradeTurn};
+ghost use Rattle.session.specs.TradeTurn.{disposed, CanTrade};
 
 // From this many turns in all on, no turn is taken.
 const MOST_TURNS: u64 = 1000000000000000000;
@@ -135,5 +142,94 @@ fn rest_turn(
     Turned {
         session: after,
         answer: TurnAnswer::Accepted(t, number, Contracts(0), 1, 0),
+    }
+}
+
+// What is left of an order rests at its limit by disposition 1, and else is cancelled.
+fn dispose(
+    d: u32,
+    e: Entry,
+    left: Contracts,
+    t: usize,
+    number: u32,
+    sides: &mut Column,
+    prices: &mut Column,
+    sizes: &mut Column,
+    owners: &mut Column,
+    numbers: &mut Column,
+)
+    requires { ⌜ t < 9 ⌝ }
+    requires { ⌜ Whole (now sides) (now prices) (now sizes) (now owners) (now numbers) ⌝ }
+    ensures { λ _. ⌜ bookOf (now (sides .exit)) (now (prices .exit)) (now (sizes .exit)) (now (owners .exit)) (now (numbers .exit)) ≡ disposed d e (left .0) t number (bookOf (now (sides .entry)) (now (prices .entry)) (now (sizes .entry)) (now (owners .entry)) (now (numbers .entry))) ⌝ }
+{
+    if d == 1 {
+        let price = e.price;
+        rest(
+            e.side,
+            price,
+            left,
+            t as u32,
+            number,
+            sides,
+            prices,
+            sizes,
+            owners,
+            numbers,
+        );
+    }
+}
+
+// The session once an order is given the next number.
+fn numbered(s: Session, tallies: [Tally; 9]) -> Session
+    requires { ⌜ s .next ≤ lastNumber ⌝ }
+    ensures { λ r. ⌜ r ≡ numbered s (s .next + 1) tallies ⌝ }
+{
+    let mut after = s;
+    after.next = s.next + 1;
+    after.tallies = tallies;
+    after
+}
+
+// Once open, an order trades with what rests within its bound, and what is left of it is disposed of.
+fn trade_turn(
+    s: Session,
+    t: usize,
+    e: Entry,
+    bound: Cents,
+    quotes: Quotes,
+    sides: &mut Column,
+    prices: &mut Column,
+    sizes: &mut Column,
+    owners: &mut Column,
+    numbers: &mut Column,
+    records: &mut Records,
+) -> Turned
+    requires { ⌜ CanTrade s t e quotes (bookOf (now sides) (now prices) (now sizes) (now owners) (now numbers)) (now records) ⌝ }
+    ensures { λ r. ⌜ ((entries : List ℕ) → turnDone r (bookOf (now (sides .exit)) (now (prices .exit)) (now (sizes .exit)) (now (owners .exit)) (now (numbers .exit))) entries (now (records .exit)) ≡ tradeTurn (marketOf s (bookOf (now (sides .entry)) (now (prices .entry)) (now (sizes .entry)) (now (owners .entry)) (now (numbers .entry))) entries) t (now (records .entry)) e bound) ⌝ }
+{
+    let tallies = s.tallies;
+    let terms = s.terms;
+    let done = settle(
+        tallies,
+        terms.allocation,
+        t,
+        e,
+        bound,
+        sides,
+        prices,
+        sizes,
+        owners,
+        numbers,
+        records,
+    );
+    let left = Contracts(e.size.0 - done.filled.0);
+    let d = disposition(e, quotes, terms, left);
+    let number = s.next as u32;
+    dispose(d, e, left, t, number, sides, prices, sizes, owners, numbers);
+    let counted = done.tallies;
+    let filled = done.filled;
+    Turned {
+        session: numbered(s, counted),
+        answer: TurnAnswer::Accepted(t, number, filled, d, done.fills),
     }
 }

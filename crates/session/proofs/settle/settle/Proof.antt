@@ -36,11 +36,14 @@ returns c =
     let sided = traded .before .before .before .before .before .other-side .ensures in
     let s = traded .before .before .before .before .before .before in
     let a = s .args in
-    let b = bookOf (a .sides .now) (a .prices .now) (a .sizes .now) (a .owners .now) (a .numbers .now) in
-    (rw sided at (traded .trade .ensures .0),
-    (rw sided at (traded .trade .ensures .1 .0),
-    settled-is _ _ _ b _ (s .pre) _ _ _ sided _ (traded .trade .ensures .1 .1 .0) _ (traded .trade .ensures .1 .1 .1) _ (c .before .before .before .credit-row .ensures) _
-    (c .before .credit .ensures)))
+    let b = bookOf (a .sides .now) (a .prices .now) (a .sizes .now) (a .owners .now) (a .numbers .now) in (
+      rw sided at (traded .trade .ensures .0),
+      (
+        rw sided at (traded .trade .ensures .1 .0),
+        settled-is _ _ _ b _ (s .pre) _ _ _ sided _ (traded .trade .ensures .1 .1 .0) _ (traded .trade .ensures .1 .1 .1) _ (c .before .before .before .credit-row .ensures) _
+            (c .before .credit .ensures),
+      ),
+    )
 
 pub settle-spec : {M : Type 1} → statement M
 settle-spec =
