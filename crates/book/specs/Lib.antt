@@ -20,3 +20,5 @@ pub mod Answers
 pub mod OpeningLaws
 pub mod SoundLaws
 pub mod RestLaws
+pub mod RecordSums
+pub mod SideLaws

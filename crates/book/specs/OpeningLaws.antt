@@ -117,7 +117,7 @@ module _ (b : Book) (p : ℕ) where
         | no e ↦ omega (arith, sold-open i, bought-other i e)
       ]
 
-  left-is : (i : ℕ) → i < b .places → sizeAt (afterFills b p) i ≡ sizeAt b i - matched b p i
+  pub left-is : (i : ℕ) → i < b .places → sizeAt (afterFills b p) i ≡ sizeAt b i - matched b p i
   unfolding afterFills
   left-is i h = table-at _ (b .places) i h
 
@@ -127,7 +127,7 @@ module _ (b : Book) (p : ℕ) where
   opening-most i h = rw (table-at (λ j. cond (buyGoes b p j || sellGoes b p j) 0 (sizeAt (afterFills b p) j)) (b .places) i h)
       (omega (arith, cond-most (buyGoes b p i || sellGoes b p i) (sizeAt (afterFills b p) i), left-is i h))
 
-  opening-left : (i : ℕ) → i < b .places → sizeAt (afterOpening b p) i ≤ sizeAt (afterFills b p) i
+  pub opening-left : (i : ℕ) → i < b .places → sizeAt (afterOpening b p) i ≤ sizeAt (afterFills b p) i
   unfolding afterOpening
   opening-left i h = rw (table-at (λ j. cond (buyGoes b p j || sellGoes b p j) 0 (sizeAt (afterFills b p) j)) (b .places) i h)
       (cond-most (buyGoes b p i || sellGoes b p i) (sizeAt (afterFills b p) i))

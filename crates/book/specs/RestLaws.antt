@@ -163,8 +163,8 @@ module _ {b : Book} {next : ℕ} (s : SoundBook b next) (free : firstFree b < ro
         put-else (b .prices) price i f,
         put-else (b .prices) price j g,
         u i j p p′
-        (omega (arith, put-else (b .sizes) size i f)) (omega (arith, put-else (b .sizes) size j g))
-        (omega (arith, put-else (b .sides) side i f)) (omega (arith, put-else (b .sides) side j g)),
+            (omega (arith, put-else (b .sizes) size i f)) (omega (arith, put-else (b .sizes) size j g))
+            (omega (arith, put-else (b .sides) side i f)) (omega (arith, put-else (b .sides) side j g)),
       )
     ]
   ]

@@ -137,7 +137,7 @@ module _ {b : Book} {next : ℕ} (s : SoundBook b next) where
     trade-resting = resting-shrinks b after-trade (λ i p. trade-less i (omega (arith, s .places)))
 
   module _ (row : ℕ) where
-    free-less : (i : ℕ) → i < rows → at (set (b .sizes) row 0) i ≤ sizeAt b i
+    pub free-less : (i : ℕ) → i < rows → at (set (b .sizes) row 0) i ≤ sizeAt b i
     free-less i p = elim (ℕ-discrete i row) [
       | yes e ↦ rw (← e) (omega (arith, getD-set-same (b .sizes) i 0 0 (omega (arith, s .sizes-long))))
       | no e ↦ omega (arith, getD-set-other (b .sizes) row i 0 0 e)
