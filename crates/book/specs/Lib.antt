@@ -22,3 +22,4 @@ pub mod SoundLaws
 pub mod RestLaws
 pub mod RecordSums
 pub mod SideLaws
+pub mod OpeningSums

@@ -10,19 +10,25 @@ use borrow.Author.Tests.{lt-ltb}
 use Rattle.units.specs.Tests.{order, less, equal, more}
 use Rattle.units.specs.Sums.{sumTo, sum-same}
 use Rattle.units.specs.Picked.{same, same-most}
-use Rattle.units.specs.Places.{at, table, table-at}
-use Rattle.book.specs.Book.{Book, ownerAt}
+use Rattle.units.specs.Places.{at, table-at}
+use Rattle.book.specs.Book.{Book, priceAt, ownerAt}
 use Rattle.book.specs.Allocation.{Resting}
 use Rattle.book.specs.AllocationLaws.{Distinct}
-use Rattle.book.specs.Records.{pos, ofTraded, records, recorded, fieldOf, written}
+use Rattle.book.specs.Records.{records, recorded, fieldOf, written}
 use Rattle.book.specs.RecordLaws.{traded-in, traded-out, pos-onto, records-most, recorded-at, sum-recorded}
 use Rattle.book.specs.Trading.{ofTenant, traded, tradedRows, tradeRecords, tradeWritten}
-use Rattle.book.specs.Opening.{matched, matchedRows, openingRecords, openingWritten}
 
 -- field f of place p, in numbers four to a record
 field-place : (p f : ℕ) → f < 4 → ((4 * p + f) / 4 ≡ p) × ((4 * p + f) % 4 ≡ f)
 field-place p f h =
     (mul-add-div (omega arith) p f ∙ (ap (λ z. p + z) (div-eq-of-lt h) ∙ add-zero p), mul-add-mod-self-left 4 p f ∙ mod-eq-of-lt h)
+
+-- whose the record at p is, and its quantity, in the lent numbers
+abbrev pub tenantIn : List ℕ → ℕ → ℕ
+tenantIn l p = at l (4 * p + 1)
+
+abbrev pub quantityIn : List ℕ → ℕ → ℕ
+quantityIn l p = at l (4 * p + 2)
 
 module _ (r : Resting) (owner price : ℕ → ℕ) (was : List ℕ) where
   open Resting r using (places, size)
@@ -37,14 +43,13 @@ module _ (r : Resting) (owner price : ℕ → ℕ) (was : List ℕ) where
       here ∙ rw (e, e′, lt-ltb p (records r) h) refl
 
   module _ (d : Distinct r) (t : ℕ) where
-    -- what stands in the records for a tenant
     abbrev tenant-at : ℕ → ℕ
-    tenant-at p = at (written r owner price was) (4 * p + 1)
+    tenant-at = tenantIn (written r owner price was)
 
     abbrev quantity-at : ℕ → ℕ
-    quantity-at p = at (written r owner price was) (4 * p + 2)
+    quantity-at = quantityIn (written r owner price was)
 
-    one-record : (p : ℕ) → p < records r → same tenant-at t quantity-at p ≡ recorded r (same owner t size) p
+    pub one-record : (p : ℕ) → p < records r → same tenant-at t quantity-at p ≡ recorded r (same owner t size) p
     unfolding same fieldOf
     one-record p h =
         let (i, q, x, e) = pos-onto r d p h in
@@ -58,3 +63,10 @@ module _ (r : Resting) (owner price : ℕ → ℕ) (was : List ℕ) where
       | equal x ↦ omega (arith, traded-out r (same owner t size) i (sym x), same-most owner t size i)
       | more x ↦ omega arith
     ])
+
+-- the records of a trade
+pub trade-tenant : (b : Book) (side bound q allocation : ℕ) (was : List ℕ) → Distinct (tradedRows b side bound q allocation) → (t : ℕ)
+    → sumTo (same (tenantIn (tradeWritten b side bound q allocation was)) t (quantityIn (tradeWritten b side bound q allocation was))) (tradeRecords b side bound q allocation)
+    ≡ ofTenant b t (traded b side bound q allocation)
+unfolding tradeRecords tradeWritten ofTenant
+trade-tenant b side bound q allocation was d t = tenant-records (tradedRows b side bound q allocation) (ownerAt b) (priceAt b) was d t

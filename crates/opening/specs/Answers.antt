@@ -3,8 +3,9 @@ use Prim.Native.Nat.{ℕ}
 use Rattle.units.specs.Units.{contracts}
 use Rattle.book.specs.Book.{Book}
 use Rattle.book.specs.Opening.{volume, openingRecords}
+use Rattle.book.specs.OpeningSums.{buyRecords}
 use Rattle.opening.specs.declared.matching.Matched.{Matched}
 
--- the volume, and how many records were written
+-- the volume, how many buys traded, and how many records were written
 unfoldable pub matchedOf : Book → ℕ → Matched
-matchedOf b p = record { volume = contracts (volume b p); fills = openingRecords b p }
+matchedOf b p = record { volume = contracts (volume b p); buys = buyRecords b p; fills = openingRecords b p }

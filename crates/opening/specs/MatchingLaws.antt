@@ -1,11 +1,15 @@
 -- The columns of a match are those of the opening's definitions.
 use mathlib.Core.Path.{_≡_, refl, ap, _∙_}
 use mathlib.Core.List.{List, []}
+use mathlib.Core.Bool.{_&&_}
 use Prim.Native.Nat.{ℕ, _-_, _≤_, _<_, min, max}
 use native.Mathlib.Decide.{ℕ-discrete}
 use native.Mathlib.Omega.{arith}
+use lib.Dec.{ltb, eqb}
 use lib.ListN.{length, replicate, getD-replicate}
-use Rattle.units.specs.Sums.{sum-le}
+use borrow.Author.Tests.{le-ltb, eq-eqb, ne-eqb}
+use Rattle.units.specs.Sums.{sum-le, sum-same}
+use Rattle.units.specs.Counts.{countTo}
 use Rattle.units.specs.Units.{contracts}
 use Rattle.units.specs.Places.{at, table, table-at, table-length, table-same}
 use Rattle.rows.specs.Rows.{rows, openSize}
@@ -19,6 +23,7 @@ use Rattle.book.specs.Records.{records, written}
 use Rattle.book.specs.Trading.{reach}
 use Rattle.book.specs.Opening.{volume, bought, sold, matched, afterFills, buyGoes, sellGoes, afterOpening, openingRecords, openingWritten}
 use Rattle.book.specs.OpeningLaws.{bought-other, sold-other, matched-most}
+use Rattle.book.specs.OpeningSums.{buyRecords}
 use Rattle.book.specs.Recording.{sortKeys, took}
 use Rattle.book.specs.SameRecords.{records-same, written-same}
 use Rattle.book.specs.Fit.{Fit}
@@ -95,12 +100,23 @@ module _ (sides prices sizes owners numbers : List ℕ) (fit : Fit prices sizes 
         unfolding afterOpening afterFills buyGoes sellGoes keptBy buyCut sellCut
         opening-leaves m e = ap (λ z. bookOf sides prices z owners numbers) (rw fills-leave at e)
 
-      pub opening-answers : (n : ℕ) → n ≡ records (took sides prices qs numbers)
-          → _≡_ {A = Matched} (record { volume = contracts q; fills = n }) (matchedOf b p)
+      -- a buy traded exactly where it bought something
+      buys-count : (n : ℕ) → n ≡ countTo (λ i. eqb (at sides i) 1 && ltb 0 (at qs i)) rows → n ≡ buyRecords b p
+      unfolding buyRecords matched
+      buys-count n e = e ∙ sum-same rows λ i h. elim (ℕ-discrete (at sides i) 1) [
+        | yes k ↦
+            let same : at qs i ≡ bought b p i = omega (arith, quantity-is i h, sold-other b p i (omega arith)) in
+            rw same (simp (eq-eqb (at sides i) 1 k))
+        | no k ↦ simp (ne-eqb (at sides i) 1 k, le-ltb 0 (bought b p i) (omega (arith, bought-other b p i k)))
+      ]
+
+      pub opening-answers : (m n : ℕ) → m ≡ countTo (λ i. eqb (at sides i) 1 && ltb 0 (at qs i)) rows → n ≡ records (took sides prices qs numbers)
+          → _≡_ {A = Matched} (record { volume = contracts q; buys = m; fills = n }) (matchedOf b p)
       unfolding matchedOf
-      opening-answers n e =
-          let counts = opening-counts n e in
-          λ j. record { volume = contracts (volume-is j); fills = counts j }
+      opening-answers m n e e′ =
+          let counts = opening-counts n e′ in
+          let buys-are = buys-count m e in
+          λ j. record { volume = contracts (volume-is j); buys = buys-are j; fills = counts j }
 
 pub table-long : (f : ℕ → ℕ) (l : List ℕ) → l ≡ table f rows → length l ≡ rows
 table-long f l e = rw e (table-length f rows)

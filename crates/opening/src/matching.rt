@@ -11,12 +11,17 @@ use rows::ROWS;
 use rows::SELL;
 use rows::passes::standing;
 use rows::row::greater;
+use rows::row::one;
+use rows::row::wide;
 use units::Cents;
 use units::Contracts;
 ghost use mathlib.Core.Path.{_≡_};
+ghost use mathlib.Core.Bool.{_&&_};
 ghost use mathlib.Core.List.{[]};
 ghost use Prim.Native.Nat.{_*_, _≤_, min, max};
+ghost use lib.Dec.{ltb, eqb};
 ghost use lib.ListN.{length};
+ghost use Rattle.units.specs.Counts.{countTo};
 ghost use Rattle.units.specs.Places.{at, table};
 ghost use Rattle.rows.specs.Rows.{rows};
 ghost use Rattle.rows.specs.Passes.{standing};
@@ -27,9 +32,10 @@ ghost use Rattle.book.specs.Opening.{afterOpening, openingWritten};
 ghost use Rattle.book.specs.Fit.{Fit};
 ghost use Rattle.opening.specs.Answers.{matchedOf};
 
-// Contracts matched, and how many records were written.
+// Contracts matched, how many records of buys were written, and how many records in all: those of sells follow those of buys.
 pub struct Matched {
     pub volume: Contracts,
+    pub buys: usize,
     pub fills: usize,
 }
 
@@ -79,6 +85,26 @@ fn fills_at(
     join(&bought, &sold)
 }
 
+// Whether a row is a buy that traded.
+fn buy_traded(side: u32, quantity: u32) -> bool
+    ensures { λ r. ⌜ r ≡ (eqb side 1 && ltb 0 quantity) ⌝ }
+{
+    if side == BUY { 0 < quantity } else { false }
+}
+
+// How many buys traded.
+fn buy_fills(sides: &Column, traded: &Column) -> u64
+    ensures { λ r. ⌜ r ≡ countTo (λ i. eqb (at (now (sides .entry)) i) 1 && ltb 0 (at (now (traded .entry)) i)) rows ⌝ }
+{
+    let mut count: u64 = 0;
+    let mut i: usize = 0;
+    while i < ROWS {
+        count += wide(one(buy_traded(sides[i], traded[i])));
+        i += 1;
+    }
+    count
+}
+
 // The opening at a price: each side fills the volume, what would lock or cross the book is cancelled, and the records are written, all at the price.
 pub fn open_at(
     price: Cents,
@@ -105,6 +131,7 @@ pub fn open_at(
     cancel(price.0, sides, prices, sizes);
     Matched {
         volume: Contracts(q),
+        buys: buy_fills(sides, &traded) as usize,
         fills: fills,
     }
 }

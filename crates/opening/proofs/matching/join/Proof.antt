@@ -1,5 +1,5 @@
 -- `opening::matching::join` meets its contract: the rows passed have the greater.
-use Prim.Native.Nat.{max, _-_}
+use Prim.Native.Nat.{_-_, max}
 use borrow.Author.Needs.{needs}
 use Rattle.rows.specs.Rows.{rows}
 use Rattle.units.specs.Loops.{Stored, store-starts, store-goes-on, store-ends}
