@@ -1,8 +1,7 @@
 -- The records of an opening: those of buys first, then those of sells; what a tenant's records have is what the tenant bought and sold.
-use mathlib.Core.Path.{_≡_, refl, sym, ap, _∙_}
+use mathlib.Core.Path.{_≡_, refl, sym, _∙_}
 use mathlib.Core.List.{List}
-use Prim.Native.Nat.{ℕ, zero, suc, _+_, _≤_, _<_}
-use native.Mathlib.Decide.{decLe, decLt}
+use Prim.Native.Nat.{ℕ, _+_, _≤_, _<_}
 use native.Mathlib.Omega.{arith}
 use lib.Dec.{ltb}
 use borrow.Author.Tests.{lt-ltb, le-ltb, eq-eqb, ne-eqb}
@@ -10,10 +9,10 @@ use Rattle.units.specs.Tests.{order, less, equal, more}
 use Rattle.units.specs.Precedence.{at-better, not-after, not-itself}
 use Rattle.units.specs.Sums.{sumTo, sum-same, sum-most, sum-less, sum-add, sum-stops}
 use Rattle.units.specs.Picked.{keep, keep-most, same, same-add, same-most}
-use Rattle.book.specs.Book.{Book, sideAt, priceAt, sizeAt, ownerAt, numberAt}
+use Rattle.book.specs.Book.{Book, sideAt, sizeAt, ownerAt, numberAt}
 use Rattle.book.specs.Allocation.{Resting}
 use Rattle.book.specs.AllocationLaws.{Distinct}
-use Rattle.book.specs.Records.{soonerThan, pos, ofTraded, records, recorded}
+use Rattle.book.specs.Records.{soonerThan, pos, records, recorded}
 use Rattle.book.specs.RecordLaws.{sooner-free, sooner-one, sooner-not, sooner-most, traded-in, traded-out, pos-onto, recorded-at, sum-recorded}
 use Rattle.book.specs.Trading.{ofTenant}
 use Rattle.book.specs.Opening.{sortKey, bought, sold, matched, matchedRows, openingRecords, openingWritten}

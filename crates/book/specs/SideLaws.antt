@@ -1,5 +1,5 @@
 -- What rests on each side: it falls by exactly what trades there, and grows by what rests.
-use mathlib.Core.Path.{_≡_, refl, sym, ap, _∙_}
+use mathlib.Core.Path.{_≡_, refl, sym, _∙_}
 use mathlib.Core.List.{List}
 use mathlib.Core.Logic.{_≢_}
 use Prim.Native.Nat.{ℕ, _+_, _-_, _≤_, _<_}
@@ -8,7 +8,6 @@ use native.Mathlib.Omega.{arith}
 use lib.Dec.{eqb}
 use lib.ListN.{set}
 use lib.Seq.{getD-set-same, getD-set-other}
-use borrow.Author.Tests.{eq-eqb, ne-eqb}
 use Rattle.units.specs.Tests.{order, less, equal, more}
 use Rattle.units.specs.Sums.{sumTo, sum-same, sum-most, sum-none, sum-add, sum-changed}
 use Rattle.units.specs.Picked.{keep, keep-none, same, same-in, same-out, same-both, same-add, same-most}
@@ -19,7 +18,7 @@ use Rattle.book.specs.AllocationLaws.{Distinct}
 use Rattle.book.specs.Trading.{reach, filled, traded, afterTrade}
 use Rattle.book.specs.TradingLaws.{traded-most, traded-side, all-traded}
 use Rattle.book.specs.Opening.{volume, bought, sold, matched, afterFills, afterOpening}
-use Rattle.book.specs.OpeningLaws.{bought-other, sold-other, matched-most, left-is, opening-left, all-bought, all-sold}
+use Rattle.book.specs.OpeningLaws.{bought-other, sold-other, matched-most, opening-left, all-bought, all-sold}
 use Rattle.book.specs.Sound.{SoundBook}
 use Rattle.book.specs.SoundLaws.{free-less}
 use Rattle.book.specs.RestLaws.{free-is}
