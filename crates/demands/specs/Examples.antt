@@ -31,7 +31,7 @@ use Rattle.lanes.specs.declared.Lanes.{Lanes}
 use Rattle.lanes.specs.declared.Served.{Served}
 use Rattle.lanes.specs.declared.Served.the-variants.{Lane, Nobody}
 use Rattle.lanes.specs.Ring.{entryAt, slot, waitingAt, taken}
-use Rattle.lanes.specs.Rotation.{distance, served}
+use Rattle.lanes.specs.Rotation.{distance, servedBy, served}
 use Rattle.price.specs.declared.Choice.the-variants.{At, NoneValid}
 use Rattle.price.specs.Amounts.{minimumAmount}
 use Rattle.price.specs.Price.{nearEither, valid, midpoint, usable, firstValid, priceOf}
@@ -170,7 +170,7 @@ unfolding sumTo same lower precedes firstTo leastTo greatestTo table keyOf withi
     leftover extra fill soonerThan pos ofTraded records recorded fieldOf written ofTenant filled traded afterTrade tradeRecords
     tradeWritten sortKey volume bought sold matched afterFills buyGoes sellGoes afterOpening openingRecords openingWritten lowerOffer quotesOf
     notYet offGrid atStrike noOffer unbid noBid converts asJudged abovePercent tooWide farBuy farSell farPrice mightRest noRoom usedUp turnDown
-    buyBound sellBound boundOf beyondDrill atAway dispositionOf verdict entryAt slot waitingAt taken distance served minimumAmount nearEither
+    buyBound sellBound boundOf beyondDrill atAway dispositionOf verdict entryAt slot waitingAt taken distance servedBy served minimumAmount nearEither
     valid midpoint usable firstValid priceOf addedFrom quotesIn turnRefusal afterTaking cancelTurn restTurn filledOf dispositionIn
     bookAfter restingShare talliesAfter tradeTurn entryTurn turnOf choiceOf openRefusal openQuiet openAt openOf _and_ _or_ isNot pick lowerIf
     higherIf

@@ -26,7 +26,7 @@ use Rattle.judge.specs.Bound.{buyBound, sellBound, boundOf}
 use Rattle.judge.specs.Disposition.{beyondDrill, atAway, dispositionOf}
 use Rattle.judge.specs.Verdict.{verdict}
 use Rattle.lanes.specs.Ring.{entryAt, slot, waitingAt, put, putAll, joined, taken}
-use Rattle.lanes.specs.Rotation.{distance, served}
+use Rattle.lanes.specs.Rotation.{distance, servedBy, served}
 use Rattle.price.specs.Price.{usable, midpoint, valid, firstValid, priceOf}
 use Rattle.session.specs.Market.{Market, Called}
 use Rattle.session.specs.Settings.{newSession, emptyBook, settingsOf}
@@ -82,7 +82,7 @@ unfolding sumTo same lower precedes firstTo leastTo greatestTo table keyOf withi
     soonerThan pos ofTraded records recorded fieldOf written ofTenant filled traded afterTrade tradeRecords tradeWritten
     oneOrTwo from1to seriesInRange protectionsInRange printsInRange inRange priced newOrder cancelling malformed lowerOffer quotesOf
     notYet offGrid atStrike noOffer unbid noBid converts asJudged tooWide farBuy farSell farPrice mightRest noRoom usedUp turnDown
-    buyBound sellBound boundOf beyondDrill atAway dispositionOf verdict entryAt slot waitingAt put putAll joined taken distance served
+    buyBound sellBound boundOf beyondDrill atAway dispositionOf verdict entryAt slot waitingAt put putAll joined taken distance servedBy served
     usable midpoint valid firstValid priceOf settingsOf wellCounted someMalformed submitRefusal submitOf addedFrom
     quotesIn turnRefusal afterTaking restTurn filledOf dispositionIn bookAfter restingShare talliesAfter tradeTurn entryTurn turnOf
     choiceOf openRefusal openQuiet openOf _and_ _or_ isNot pick lowerIf higherIf

@@ -1,4 +1,4 @@
--- How one entry is judged: the rules of document 01 as definitions.
+-- How one entry is judged: the rules of document 01 as definitions, and the laws about them.
 pub mod Numbers
 pub mod Settings
 pub mod Entry
@@ -7,3 +7,12 @@ pub mod TurnDown
 pub mod Bound
 pub mod Disposition
 pub mod Verdict
+pub mod NumberLaws
+pub mod SettingsLaws
+pub mod WidthLaws
+pub mod EntryLaws
+pub mod TurnDownLaws
+pub mod DispositionLaws
+pub mod BoundLaws
+pub mod VerdictLaws
+pub mod Examples

@@ -1,6 +1,5 @@
 -- NBB and NBO.
 use Prim.Native.Nat.{ℕ, min, max}
-use mathlib.Core.Bool.{Bool}
 use lib.Dec.{eqb}
 use Rattle.units.specs.Units.{cents}
 use Rattle.units.specs.Tests.{pick}

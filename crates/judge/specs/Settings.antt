@@ -1,5 +1,4 @@
 -- The settings: their ranges, and what accepted ones say.
-use Prim.Native.Nat.{ℕ}
 use mathlib.Core.Bool.{Bool}
 use lib.Dec.{leb, eqb}
 use Rattle.units.specs.declared.grid.Grid.{Grid}

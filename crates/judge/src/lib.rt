@@ -4,6 +4,15 @@ use units::Cents;
 use units::Contracts;
 use units::grid::Grid;
 
+pub mod best_quotes;
+mod bound;
+pub mod disposition;
+pub mod form;
+pub mod ranges;
+mod turn_down;
+pub mod verdict;
+mod words;
+
 pub const LIMIT: u32 = 1;
 
 pub const MARKET: u32 = 2;

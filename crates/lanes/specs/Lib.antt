@@ -1,3 +1,11 @@
--- The lanes and the rotation: the rules of document 01 as definitions.
+-- The lanes and the rotation: the rules of document 01 as definitions, and the laws about them.
 pub mod Ring
+pub mod RingLaws
+pub mod Waiting
+pub mod Asked
 pub mod Rotation
+pub mod Runs
+pub mod RotationLaws
+pub mod Fairness
+pub mod Marks
+pub mod Examples

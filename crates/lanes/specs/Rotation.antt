@@ -21,6 +21,10 @@ waits l t = ltb 0 (lenOf l t)
 unfoldable pub distance : (ℕ → Bool) → ℕ → ℕ
 distance busy place = firstTo (λ d. busy (on place d)) tenants
 
+-- the lane that a turn serves, by who waits and the place
+unfoldable pub servedBy : (ℕ → Bool) → ℕ → Served
+servedBy busy place = pick (ltb (distance busy place) tenants) (Lane (on place (distance busy place))) Nobody
+
 -- the lane that a turn serves
 unfoldable pub served : Lanes → Served
-served l = pick (ltb (distance (waits l) (l .place)) tenants) (Lane (on (l .place) (distance (waits l) (l .place)))) Nobody
+served l = servedBy (waits l) (l .place)

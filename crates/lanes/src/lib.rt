@@ -1,5 +1,10 @@
 // Nine lanes of 64 entries, one for each tenant, and the rotation among them. A lane is a ring: its entries stay where they were put, and its
 // head moves.
+pub mod ring;
+pub mod rotation;
+
+ghost use mathlib.Core.Path.{_≡_};
+ghost use Rattle.lanes.specs.Ring.{empty};
 
 // The tenants, 0 to 8, and so the lanes.
 pub const TENANTS: usize = 9;
@@ -24,4 +29,17 @@ pub struct Lanes {
 pub enum Served {
     Lane(usize),
     Nobody,
+}
+
+impl Lanes {
+    // No entry waits, and the rotation is at tenant 0.
+    pub fn new() -> Lanes
+        ensures { λ r. ⌜ r ≡ empty ⌝ }
+    {
+        Lanes {
+            heads: [0u32; 9],
+            lens: [0u32; 9],
+            place: 0,
+        }
+    }
 }

@@ -1,3 +1,6 @@
--- The opening price: the rules of document 01 as definitions.
+-- The opening price: the rules of document 01 as definitions, and the laws about them.
 pub mod Amounts
+pub mod AmountLaws
 pub mod Price
+pub mod PriceLaws
+pub mod Examples

@@ -5,6 +5,8 @@ pub mod row;
 // The rows of the book: nine tenants with 24 each.
 pub const ROWS: usize = 216;
 
+pub const ROWS_A_TENANT: u32 = 24;
+
 // What every row has of one thing: its side, its price, its size, its owner or its order number.
 pub type Column = [u32; 216];
 

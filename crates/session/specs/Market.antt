@@ -1,11 +1,10 @@
 -- A market: a session with the columns of its book and its lanes' entries. Calls, and the numbers they answer.
-use mathlib.Core.Bool.{Bool}
-use mathlib.Core.List.{List, []}
+use mathlib.Core.List.{List}
 use Prim.Native.Nat.{ℕ}
 use Rattle.units.specs.Tests.{isNot}
 use Rattle.units.specs.Cases.{Case, _when_}
-use Rattle.rows.specs.Rows.{rows}
 use Rattle.book.specs.Book.{Book}
+use Rattle.session.specs.declared.Answered.{Answered}
 use Rattle.session.specs.declared.Session.{Session}
 
 pub record Market : Type 0 where
@@ -19,6 +18,14 @@ pub record Called : Type 0 where
   pub market : Market
   pub code : ℕ
 
+-- the market of a session, a book and the lanes' entries
+abbrev pub marketOf : Session → Book → List ℕ → Market
+marketOf s book entries = record { session = s; book = book; entries = entries }
+
+-- what a call answered, beside the book and the entries that it left
+abbrev pub answeredOf : Answered → Book → List ℕ → Called
+answeredOf r book entries = record { market = marketOf (r .session) book entries; code = r .code }
+
 -- 21 no accepted settings yet: the first refusal of every call but settings
-abbrev pub unset : Market → Case
-unset m = 21 when isNot (m .session .accepted)
+abbrev pub unset : Session → Case
+unset s = 21 when isNot (s .accepted)

@@ -17,7 +17,8 @@ use Rattle.tally.specs.declared.Tally.{Tally}
 use Rattle.tally.specs.Tallies.{added}
 use Rattle.session.specs.declared.OpenAnswer.{OpenAnswer}
 use Rattle.session.specs.declared.OpenAnswer.the-variants as answer
-use Rattle.session.specs.Market.{Market, unset}
+use Rattle.session.specs.declared.Session.{Session}
+use Rattle.session.specs.Market.{Market, marketOf, unset}
 
 -- what an opening makes of a market and of the fill records lent to it, and what it answers
 pub record OpenDone : Type 0 where
@@ -41,43 +42,37 @@ fillsIn (answer.Refused code) = 0
 fillsIn (answer.AtPrice price volume fills) = fills
 
 -- NBB and NBO here are the away quote alone; the last print and the previous close are settings
-abbrev pub sourcesOf : Market → Sources
-sourcesOf m = record {
-  bid = m .session .away .bid;
-  offer = m .session .away .offer;
-  print = m .session .terms .print;
-  close = m .session .terms .close;
-}
+abbrev pub sourcesOf : Session → Sources
+sourcesOf s = record { bid = s .away .bid; offer = s .away .offer; print = s .terms .print; close = s .terms .close }
 
-unfoldable pub choiceOf : Market → Choice
-choiceOf m = priceOf (sourcesOf m)
+unfoldable pub choiceOf : Session → Choice
+choiceOf s = priceOf (sourcesOf s)
 
 -- the numbers in the order of checking: 9 already open, 6 fewer than 216 fill records lent, 20 no valid opening price, given in no other case than
 -- that some resting buy is at or above a resting sell
 unfoldable pub openRefusal : Market → ℕ → ℕ
 openRefusal m lent =
     firstOf 0
-    (unset m
+    (unset (m .session)
     ∷ (9 when m .session .opened)
     ∷ (6 when ltb lent rows)
-    ∷ (20 when crosses (m .book) and noneValid (choiceOf m))
+    ∷ (20 when crosses (m .book) and noneValid (choiceOf (m .session)))
     ∷ [])
 
--- the market once open, with another book and other tallies
-abbrev pub openedTo : Market → Book → List Tally → Market
-openedTo m book tallies = record {
-  session = record {
-    accepted = m .session .accepted;
-    terms = m .session .terms;
-    away = m .session .away;
-    opened = true;
-    lanes = m .session .lanes;
-    next = m .session .next;
-    tallies = tallies;
-  };
-  book = book;
-  entries = m .entries;
+-- a session once open, with other tallies, and the market of it with another book
+abbrev pub openOn : Session → List Tally → Session
+openOn s tallies = record {
+  accepted = s .accepted;
+  terms = s .terms;
+  away = s .away;
+  opened = true;
+  lanes = s .lanes;
+  next = s .next;
+  tallies = tallies;
 }
+
+abbrev pub openedTo : Market → Book → List Tally → Market
+openedTo m book tallies = marketOf (openOn (m .session) tallies) book (m .entries)
 
 -- If no resting buy is at or above a resting sell, the series opens with price 0 and volume 0.
 unfoldable pub openQuiet : Market → List ℕ → OpenDone
@@ -102,4 +97,4 @@ unfoldable pub openOf : Market → ℕ → List ℕ → OpenDone
 openOf m lent was =
     pick (ltb 0 (openRefusal m lent))
     (record { market = m; answer = answer.Refused (openRefusal m lent); records = was })
-    (pick (crosses (m .book)) (openAt m was (chosen (choiceOf m))) (openQuiet m was))
+    (pick (crosses (m .book)) (openAt m was (chosen (choiceOf (m .session)))) (openQuiet m was))

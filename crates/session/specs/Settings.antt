@@ -21,7 +21,7 @@ use Rattle.judge.specs.Settings.{inRange, termsOf}
 use Rattle.lanes.specs.Ring.{allEntries, empty}
 use Rattle.tally.specs.Tallies.{noTallies}
 use Rattle.session.specs.declared.Session.{Session}
-use Rattle.session.specs.Market.{Market, Called, unset}
+use Rattle.session.specs.Market.{Market, Called, marketOf, unset}
 
 abbrev pub noQuote : Away
 noQuote = record { bid = cents 0; offer = cents 0 }
@@ -85,27 +85,23 @@ settingsOf m s = onGridOf m s (gridOf (s .grid))
 unfoldable pub tooHigh : Cents → Cents → Bool
 tooHigh bid offer = ltb highest (bid .0) or ltb highest (offer .0)
 
-unfoldable pub awayRefusal : Market → Cents → Cents → ℕ
-awayRefusal m bid offer = firstOf 0 (unset m ∷ (8 when tooHigh bid offer) ∷ [])
+unfoldable pub awayRefusal : Session → Cents → Cents → ℕ
+awayRefusal s bid offer = firstOf 0 (unset s ∷ (8 when tooHigh bid offer) ∷ [])
 
 -- An accepted away replaces the present bid and offer, answers 0 and changes nothing else.
-abbrev pub withAway : Market → Cents → Cents → Market
-withAway m bid offer = record {
-  session = record {
-    accepted = m .session .accepted;
-    terms = m .session .terms;
-    away = record { bid = bid; offer = offer };
-    opened = m .session .opened;
-    lanes = m .session .lanes;
-    next = m .session .next;
-    tallies = m .session .tallies;
-  };
-  book = m .book;
-  entries = m .entries;
+abbrev pub withAway : Session → Cents → Cents → Session
+withAway s bid offer = record {
+  accepted = s .accepted;
+  terms = s .terms;
+  away = record { bid = bid; offer = offer };
+  opened = s .opened;
+  lanes = s .lanes;
+  next = s .next;
+  tallies = s .tallies;
 }
 
 unfoldable pub awayOf : Market → Cents → Cents → Called
 awayOf m bid offer =
-    pick (ltb 0 (awayRefusal m bid offer))
-    (record { market = m; code = awayRefusal m bid offer })
-    (record { market = withAway m bid offer; code = 0 })
+    pick (ltb 0 (awayRefusal (m .session) bid offer))
+    (record { market = m; code = awayRefusal (m .session) bid offer })
+    (record { market = marketOf (withAway (m .session) bid offer) (m .book) (m .entries); code = 0 })

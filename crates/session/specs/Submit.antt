@@ -9,8 +9,10 @@ use Rattle.units.specs.Cases.{_when_, firstOf}
 use Rattle.units.specs.Firsts.{firstTo}
 use Rattle.judge.specs.Numbers.{from1to}
 use Rattle.judge.specs.Entry.{malformed}
+use Rattle.lanes.specs.declared.Lanes.{Lanes}
 use Rattle.lanes.specs.Ring.{tenants, depth, bulk, entryAt, lenOf, putAll, joined}
-use Rattle.session.specs.Market.{Market, Called, unset}
+use Rattle.session.specs.declared.Session.{Session}
+use Rattle.session.specs.Market.{Market, Called, marketOf, unset}
 
 -- 3 count not 1 to 20 or not six numbers lent for each entry
 unfoldable pub wellCounted : ℕ → List ℕ → Bool
@@ -21,35 +23,37 @@ unfoldable pub someMalformed : ℕ → List ℕ → Bool
 someMalformed count ns = ltb (firstTo (λ j. malformed (entryAt ns j)) count) count
 
 -- the numbers in the order of checking: 1 tenant, 3 count, 2 any malformed entry, 4 waiting plus count above 64
-unfoldable pub submitRefusal : Market → ℕ → ℕ → List ℕ → ℕ
-submitRefusal m tenant count ns =
+unfoldable pub submitRefusal : Session → ℕ → ℕ → List ℕ → ℕ
+submitRefusal s tenant count ns =
     firstOf 0
-    (unset m
+    (unset s
     ∷ (1 when leb tenants tenant)
     ∷ (3 when isNot (wellCounted count ns))
     ∷ (2 when someMalformed count ns)
-    ∷ (4 when ltb depth (lenOf (m .session .lanes) tenant + count))
+    ∷ (4 when ltb depth (lenOf (s .lanes) tenant + count))
     ∷ [])
+
+-- a session with other lanes
+abbrev pub withLanes : Session → Lanes → Session
+withLanes s lanes = record {
+  accepted = s .accepted;
+  terms = s .terms;
+  away = s .away;
+  opened = s .opened;
+  lanes = lanes;
+  next = s .next;
+  tallies = s .tallies;
+}
 
 -- Submit takes all of a bulk or none: an accepted one puts its entries, as given and in their order, behind those waiting in the tenant's lane,
 -- answers 0 and changes nothing else.
 abbrev pub withEntries : Market → ℕ → ℕ → List ℕ → Market
-withEntries m tenant count ns = record {
-  session = record {
-    accepted = m .session .accepted;
-    terms = m .session .terms;
-    away = m .session .away;
-    opened = m .session .opened;
-    lanes = joined (m .session .lanes) tenant count;
-    next = m .session .next;
-    tallies = m .session .tallies;
-  };
-  book = m .book;
-  entries = putAll (m .session .lanes) (m .entries) tenant ns count;
-}
+withEntries m tenant count ns =
+    marketOf (withLanes (m .session) (joined (m .session .lanes) tenant count)) (m .book)
+    (putAll (m .session .lanes) (m .entries) tenant ns count)
 
 unfoldable pub submitOf : Market → ℕ → ℕ → List ℕ → Called
 submitOf m tenant count ns =
-    pick (ltb 0 (submitRefusal m tenant count ns))
-    (record { market = m; code = submitRefusal m tenant count ns })
+    pick (ltb 0 (submitRefusal (m .session) tenant count ns))
+    (record { market = m; code = submitRefusal (m .session) tenant count ns })
     (record { market = withEntries m tenant count ns; code = 0 })

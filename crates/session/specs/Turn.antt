@@ -28,7 +28,7 @@ use Rattle.tally.specs.Tallies.{added, counted, onlyFor, turnsInAll}
 use Rattle.session.specs.declared.Session.{Session}
 use Rattle.session.specs.declared.TurnAnswer.{TurnAnswer}
 use Rattle.session.specs.declared.TurnAnswer.the-variants as answer
-use Rattle.session.specs.Market.{Market, unset}
+use Rattle.session.specs.Market.{Market, marketOf, unset}
 
 -- what a turn makes of a market and of the fill records lent to it, and what it answers
 pub record TurnDone : Type 0 where
@@ -83,45 +83,40 @@ mostTurns = 1000000000000000000
 
 -- the numbers in the order of checking: 5 no lane has an entry, 6 fewer than 216 fill records lent, 35 the tallies show
 -- 1,000,000,000,000,000,000 turns taken in all
-unfoldable pub turnRefusal : Market → ℕ → ℕ
-turnRefusal m lent =
+unfoldable pub turnRefusal : Session → ℕ → ℕ
+turnRefusal s lent =
     firstOf 0
-    (unset m
-    ∷ (5 when nobody (served (m .session .lanes)))
+    (unset s
+    ∷ (5 when nobody (served (s .lanes)))
     ∷ (6 when ltb lent rows)
-    ∷ (35 when leb mostTurns (turnsInAll (m .session .tallies)))
+    ∷ (35 when leb mostTurns (turnsInAll (s .tallies)))
     ∷ [])
 
--- the market with another book, another next number and other tallies
-abbrev pub tradedTo : Market → Book → ℕ → List Tally → Market
-tradedTo m book next tallies = record {
-  session = record {
-    accepted = m .session .accepted;
-    terms = m .session .terms;
-    away = m .session .away;
-    opened = m .session .opened;
-    lanes = m .session .lanes;
-    next = next;
-    tallies = tallies;
-  };
-  book = book;
-  entries = m .entries;
+-- a session with another next number and other tallies, and the market of it with another book
+abbrev pub numbered : Session → ℕ → List Tally → Session
+numbered s next tallies = record {
+  accepted = s .accepted;
+  terms = s .terms;
+  away = s .away;
+  opened = s .opened;
+  lanes = s .lanes;
+  next = next;
+  tallies = tallies;
 }
 
+abbrev pub tradedTo : Market → Book → ℕ → List Tally → Market
+tradedTo m book next tallies = marketOf (numbered (m .session) next tallies) book (m .entries)
+
 -- A taken turn removes the head entry of its lane and moves the place to the tenant after it; it counts as a turn of that tenant.
-unfoldable pub afterTaking : Market → ℕ → Market
-afterTaking m t = record {
-  session = record {
-    accepted = m .session .accepted;
-    terms = m .session .terms;
-    away = m .session .away;
-    opened = m .session .opened;
-    lanes = taken (m .session .lanes) t;
-    next = m .session .next;
-    tallies = counted (m .session .tallies) t 1 0 0;
-  };
-  book = m .book;
-  entries = m .entries;
+unfoldable pub afterTaking : Session → ℕ → Session
+afterTaking s t = record {
+  accepted = s .accepted;
+  terms = s .terms;
+  away = s .away;
+  opened = s .opened;
+  lanes = taken (s .lanes) t;
+  next = s .next;
+  tallies = counted (s .tallies) t 1 0 0;
 }
 
 -- below, m is the market once the turn is taken, t the tenant, and was the fill records as lent
@@ -208,12 +203,12 @@ entryTurn m t was e =
 
 -- the turn of the lane served, with its head entry
 abbrev pub turnOfLane : Market → List ℕ → Served → TurnDone
-turnOfLane m was (Lane t) = entryTurn (afterTaking m t) t was (waitingAt (m .session .lanes) (m .entries) t 0)
+turnOfLane m was (Lane t) = entryTurn (marketOf (afterTaking (m .session) t) (m .book) (m .entries)) t was (waitingAt (m .session .lanes) (m .entries) t 0)
 turnOfLane m was Nobody = record { market = m; answer = answer.Refused 5; records = was }
 
 -- a refused turn returns the number alone and alters nothing
 unfoldable pub turnOf : Market → ℕ → List ℕ → TurnDone
 turnOf m lent was =
-    pick (ltb 0 (turnRefusal m lent))
-    (record { market = m; answer = answer.Refused (turnRefusal m lent); records = was })
+    pick (ltb 0 (turnRefusal (m .session) lent))
+    (record { market = m; answer = answer.Refused (turnRefusal (m .session) lent); records = was })
     (turnOfLane m was (served (m .session .lanes)))

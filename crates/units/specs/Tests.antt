@@ -91,3 +91,13 @@ order a b = go (decLt a b) (decLt b a)
     go (yes h) d = less h
     go (no h) (yes k) = more k
     go (no h) (no k) = equal (omega arith)
+
+pub not-false : (a : Bool) → isNot a ≡ false → a ≡ true
+unfolding isNot
+not-false true h = refl
+not-false false h = absurd (true≢false h)
+
+-- where one of two holds and the second fails, the first holds
+pub or-first : {a b : Bool} → (a ≡ true) ⊎ (b ≡ true) → b ≡ false → a ≡ true
+or-first (inl h) g = h
+or-first (inr h) g = absurd (holds-not-fails h g)

@@ -1,0 +1,48 @@
+// The bound within which an order trades.
+use crate::Entry;
+use crate::LIMIT;
+use crate::MARKET;
+use crate::Quotes;
+use crate::Terms;
+use crate::words::both;
+use crate::words::higher;
+use crate::words::less;
+use crate::words::lower;
+use crate::words::plus;
+use crate::words::wide;
+use rows::BUY;
+use rows::HIGHEST;
+use units::Cents;
+ghost use mathlib.Core.Path.{_≡_};
+ghost use Rattle.judge.specs.Bound.{buyBound, sellBound, boundOf};
+
+// A market buy of a put stays below the strike.
+fn buy_bound(e: Entry, q: Quotes, t: Terms) -> u32
+    ensures { λ r. ⌜ r ≡ buyBound e q t ⌝ }
+{
+    let below_strike = wide(less(t.strike, Cents(1)));
+    let put = lower(both(e.kind == MARKET, t.put), below_strike, HIGHEST);
+    let drill = lower(0 < q.nbo.0, plus(q.nbo, t.drill), put);
+    let away = lower(0 < q.away.offer.0, wide(q.away.offer), drill);
+    lower(e.kind == LIMIT, wide(e.price), away)
+}
+
+// NBB less the buffer counts only where a price is left of it.
+fn sell_bound(e: Entry, q: Quotes, t: Terms) -> u32
+    ensures { λ r. ⌜ r ≡ sellBound e q t ⌝ }
+{
+    let drill = higher(t.drill.0 < q.nbb.0, less(q.nbb, t.drill).0, 1);
+    let away = higher(0 < q.away.bid.0, q.away.bid.0, drill);
+    higher(e.kind == LIMIT, e.price.0, away)
+}
+
+// The worst price at which an order trades.
+pub fn bound(e: Entry, q: Quotes, t: Terms) -> Cents
+    ensures { λ r. ⌜ r ≡ boundOf e q t ⌝ }
+{
+    if e.side == BUY {
+        Cents(buy_bound(e, q, t))
+    } else {
+        Cents(sell_bound(e, q, t))
+    }
+}

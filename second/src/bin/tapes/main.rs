@@ -1,0 +1,165 @@
+//! Makes tapes, tells what they reach, and turns them into words and back.
+
+mod arguments;
+mod compare;
+mod dice;
+mod flavours;
+mod pen;
+mod purpose;
+mod report;
+mod weather;
+
+use std::ffi::OsString;
+use std::fs::File;
+use std::io::{self, BufWriter, Read, Write};
+use std::path::{Path, PathBuf};
+use std::process::ExitCode;
+
+use arguments::{help, parse, Task};
+use flavours::{round, Flavour};
+use second::words;
+
+const FAILED: u8 = 2;
+
+fn main() -> ExitCode {
+    let arguments: Vec<OsString> = std::env::args_os().skip(1).collect();
+    match parse(&arguments).and_then(run) {
+        Ok(true) => ExitCode::SUCCESS,
+        Ok(false) => ExitCode::FAILURE,
+        Err(reason) => {
+            eprintln!("tapes: {reason}");
+            ExitCode::from(FAILED)
+        }
+    }
+}
+
+/// Does the task; false only where a report finds an outcome missing or a
+/// comparison finds a difference.
+fn run(task: Task) -> Result<bool, String> {
+    match task {
+        Task::Help => put(None, help().as_bytes())?,
+        Task::Write {
+            flavour,
+            seed,
+            events,
+            out,
+        } => write_tape(flavour, seed, events, out.as_deref())?,
+        Task::Many {
+            count,
+            seed,
+            only,
+            events,
+            dir,
+        } => write_many(count, seed, only, events, &dir)?,
+        Task::Cuts { file, dir } => write_cuts(&file, &dir)?,
+        Task::Show { file } => put(None, words::show(&read(Some(&file))?).as_bytes())?,
+        Task::Make { file, out } => make_tape(file.as_deref(), out.as_deref())?,
+        Task::Report { files } => return report_on(&files),
+        Task::Compare { one, other } => return compare_folders(&one, &other),
+    }
+    Ok(true)
+}
+
+fn write_tape(
+    flavour: &Flavour,
+    seed: u64,
+    events: Option<u64>,
+    out: Option<&Path>,
+) -> Result<(), String> {
+    let mut out = open_out(out)?;
+    flavour
+        .write(&mut out, seed, events)
+        .and_then(|()| out.flush())
+        .map_err(|error| format!("the tape cannot be written: {error}"))
+}
+
+fn write_many(
+    count: u64,
+    seed: u64,
+    only: Option<&'static Flavour>,
+    events: Option<u64>,
+    dir: &Path,
+) -> Result<(), String> {
+    make_dir(dir)?;
+    for (flavour, seed) in round(count, seed, only) {
+        let file = dir.join(format!("{}-{seed}.tape", flavour.name));
+        write_tape(flavour, seed, events, Some(&file))?;
+    }
+    Ok(())
+}
+
+/// Every truncation of a tape, named by its length.
+fn write_cuts(file: &Path, dir: &Path) -> Result<(), String> {
+    make_dir(dir)?;
+    let tape = read(Some(file))?;
+    let name = file.file_stem().unwrap_or_default().to_string_lossy();
+    for length in 0..tape.len() {
+        let cut = dir.join(format!("{name}-cut-at-{length}.tape"));
+        put(Some(&cut), &tape[..length])?;
+    }
+    Ok(())
+}
+
+fn make_tape(file: Option<&Path>, out: Option<&Path>) -> Result<(), String> {
+    let given = read(file)?;
+    let text = std::str::from_utf8(&given).map_err(|_| "the words are no text".to_string())?;
+    put(out, &words::make(text)?)
+}
+
+fn report_on(files: &[PathBuf]) -> Result<bool, String> {
+    let mut report = report::Report::default();
+    for file in files {
+        report.replay(&read(Some(file))?);
+    }
+    let (table, complete) = report.table();
+    put(None, table.as_bytes())?;
+    Ok(complete)
+}
+
+fn compare_folders(one: &Path, other: &Path) -> Result<bool, String> {
+    let comparison = compare::compare(one, other)?;
+    let mut told = comparison.told;
+    told.push(format!(
+        "{} passed, {} failed\n",
+        comparison.passed, comparison.failed
+    ));
+    put(None, told.join("\n").as_bytes())?;
+    Ok(comparison.failed == 0)
+}
+
+fn make_dir(dir: &Path) -> Result<(), String> {
+    std::fs::create_dir_all(dir)
+        .map_err(|error| format!("{} cannot be made: {error}", dir.display()))
+}
+
+fn read(file: Option<&Path>) -> Result<Vec<u8>, String> {
+    match file {
+        Some(file) => std::fs::read(file)
+            .map_err(|error| format!("{} cannot be read: {error}", file.display())),
+        None => {
+            let mut bytes = Vec::new();
+            io::stdin()
+                .read_to_end(&mut bytes)
+                .map_err(|error| format!("standard input cannot be read: {error}"))?;
+            Ok(bytes)
+        }
+    }
+}
+
+fn open_out(out: Option<&Path>) -> Result<BufWriter<Box<dyn Write>>, String> {
+    let inner: Box<dyn Write> = match out {
+        Some(file) => Box::new(
+            File::create(file)
+                .map_err(|error| format!("{} cannot be written: {error}", file.display()))?,
+        ),
+        None => Box::new(io::stdout()),
+    };
+    Ok(BufWriter::with_capacity(1 << 16, inner))
+}
+
+fn put(out: Option<&Path>, bytes: &[u8]) -> Result<(), String> {
+    let mut out = open_out(out)?;
+    out.write_all(bytes)
+        .and_then(|()| out.flush())
+        .map_err(|error| format!("the output cannot be written: {error}"))
+}
