@@ -1,7 +1,6 @@
 -- What fit columns give to a match, and that every sound book is fit.
-use mathlib.Core.Path.{_≡_}
 use mathlib.Core.List.{List, []}
-use Prim.Native.Nat.{ℕ, _<_}
+use Prim.Native.Nat.{ℕ}
 use native.Mathlib.Omega.{arith}
 use Rattle.units.specs.Places.{at}
 use Rattle.margin.specs.RangeLaws.{open-most}

@@ -20,3 +20,6 @@ pub mod Answers
 pub mod OpeningLaws
 pub mod SoundLaws
 pub mod RestLaws
+pub mod RecordSums
+pub mod SideLaws
+pub mod OpeningSums

@@ -1,15 +1,13 @@
 -- What an opening comes to: as much is bought as sold, and the open book is neither locked nor crossed.
 use mathlib.Core.Path.{_≡_, refl}
-use mathlib.Core.Bool.{Bool, true, false, cond, _&&_, _||_}
-use Prim.Native.Nat.{ℕ, _+_, _-_, _≤_, _<_}
+use mathlib.Core.Bool.{Bool, true, false, cond, _||_}
+use Prim.Native.Nat.{ℕ, _-_, _≤_, _<_}
 use native.Mathlib.Decide.{ℕ-discrete, decLe}
 use native.Mathlib.Omega.{arith}
-use lib.Dec.{eqb}
 use borrow.Author.Tests.{eq-eqb, ne-eqb, lt-ltb, le-leb}
 use Rattle.units.specs.Tests.{order, less, equal, more}
-use Rattle.units.specs.Sums.{sumTo, sum-has, sum-add}
-use Rattle.units.specs.Picked.{keep}
-use Rattle.units.specs.Places.{table, table-at}
+use Rattle.units.specs.Sums.{sumTo, sum-has}
+use Rattle.units.specs.Places.{table-at}
 use Rattle.units.specs.Leasts.{least-most, greatest-has}
 use Rattle.rows.specs.Rows.{noPrice, within, openSize, buyPrice, sellPrice}
 use Rattle.rows.specs.Passes.{highestBuy, lowestSell, standing}
@@ -43,10 +41,6 @@ sell-price-is side price size e x = simp (eq-eqb side 2 e, lt-ltb 0 size x)
 cond-most : (t : Bool) (x : ℕ) → cond t 0 x ≤ x
 cond-most true x = omega arith
 cond-most false x = omega arith
-
-keep-split : (t : Bool) (x f : ℕ) → f ≤ keep t x → keep t x ≡ keep t (x - f) + f
-keep-split true x f h = omega arith
-keep-split false x f h = omega arith
 
 -- ---- a book's best prices
 
@@ -117,7 +111,7 @@ module _ (b : Book) (p : ℕ) where
         | no e ↦ omega (arith, sold-open i, bought-other i e)
       ]
 
-  left-is : (i : ℕ) → i < b .places → sizeAt (afterFills b p) i ≡ sizeAt b i - matched b p i
+  pub left-is : (i : ℕ) → i < b .places → sizeAt (afterFills b p) i ≡ sizeAt b i - matched b p i
   unfolding afterFills
   left-is i h = table-at _ (b .places) i h
 
@@ -127,7 +121,7 @@ module _ (b : Book) (p : ℕ) where
   opening-most i h = rw (table-at (λ j. cond (buyGoes b p j || sellGoes b p j) 0 (sizeAt (afterFills b p) j)) (b .places) i h)
       (omega (arith, cond-most (buyGoes b p i || sellGoes b p i) (sizeAt (afterFills b p) i), left-is i h))
 
-  opening-left : (i : ℕ) → i < b .places → sizeAt (afterOpening b p) i ≤ sizeAt (afterFills b p) i
+  pub opening-left : (i : ℕ) → i < b .places → sizeAt (afterOpening b p) i ≤ sizeAt (afterFills b p) i
   unfolding afterOpening
   opening-left i h = rw (table-at (λ j. cond (buyGoes b p j || sellGoes b p j) 0 (sizeAt (afterFills b p) j)) (b .places) i h)
       (cond-most (buyGoes b p i || sellGoes b p i) (sizeAt (afterFills b p) i))

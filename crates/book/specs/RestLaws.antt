@@ -2,7 +2,7 @@
 use mathlib.Core.Path.{_≡_, refl, sym, ap, _∙_}
 use mathlib.Core.List.{List}
 use mathlib.Core.Logic.{_≢_}
-use Prim.Native.Nat.{ℕ, _+_, _*_, _≤_, _<_}
+use Prim.Native.Nat.{ℕ, _+_, _≤_, _<_}
 use native.Mathlib.Decide.{ℕ-discrete}
 use native.Mathlib.Omega.{arith}
 use lib.Dec.{eqb}
@@ -12,7 +12,7 @@ use borrow.Author.Tests.{eqb-true, eqb-false, eq-eqb, ne-eqb}
 use Rattle.units.specs.Tests.{order, less, equal, more}
 use Rattle.units.specs.Sums.{sumTo, sum-same, sum-only, sum-swap, sum-changed, sum-ones, sum-le, sum-less}
 use Rattle.units.specs.Picked.{keep, keep-most}
-use Rattle.units.specs.Firsts.{firstTo, first-holds, first-before}
+use Rattle.units.specs.Firsts.{first-holds, first-before}
 use Rattle.units.specs.Places.{at}
 use Rattle.rows.specs.Rows.{rows, rowsATenant, highest, restsFor}
 use Rattle.rows.specs.Passes.{restingRows, freeRow}
@@ -189,8 +189,8 @@ module _ {b : Book} {next : ℕ} (s : SoundBook b next) (full : (i : ℕ) → i 
 pub room-found : {b : Book} {next : ℕ} → SoundBook b next → (t : ℕ) → t < 9 → restingOf b t < rowsATenant → firstFree b < rows
 room-found {b} s t h room = elim (order (firstFree b) rows) [
   | less p ↦ p
-  | equal p ↦ absurd (none p)
-  | more p ↦ absurd (none′ (omega arith))
+  | equal p ↦ absurd (none (omega arith))
+  | more p ↦ absurd (none (omega arith))
 ]
   where
     full : rows ≤ firstFree b → (i : ℕ) → i < rows → 0 < sizeAt b i
@@ -200,13 +200,10 @@ room-found {b} s t h room = elim (order (firstFree b) rows) [
       | more x ↦ omega arith
     ]
 
-    none′ : rows ≤ firstFree b → ⊥
-    none′ g = omega (
+    none : rows ≤ firstFree b → ⊥
+    none g = omega (
       arith,
       full-counts s (full g),
       sum-less {f = restingOf b} {g = λ _. rowsATenant} 9 t (λ u p. s .room u p) h room,
       sum-le (λ _. rowsATenant) rowsATenant 9 (λ _ _. omega arith),
     )
-
-    none : firstFree b ≡ rows → ⊥
-    none e = none′ (omega arith)

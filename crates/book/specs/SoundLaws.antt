@@ -1,30 +1,25 @@
 -- What keeps a book sound: trading, cancelling and opening take from rows, resting fills a free one; and a sound book is fit for a match.
-use mathlib.Core.Path.{_≡_, refl, sym, ap, _∙_}
+use mathlib.Core.Path.{_≡_, sym, _∙_}
 use mathlib.Core.List.{List}
-use mathlib.Core.Bool.{Bool, true, false, _&&_}
 use mathlib.Core.Logic.{_≢_}
-use Prim.Native.Nat.{ℕ, _+_, _*_, _-_, _≤_, _<_}
-use native.Mathlib.Decide.{decLt, ℕ-discrete}
+use Prim.Native.Nat.{ℕ, _-_, _≤_, _<_}
+use native.Mathlib.Decide.{ℕ-discrete}
 use native.Mathlib.Omega.{arith}
-use lib.Dec.{ltb, eqb}
 use lib.ListN.{length, set, length-set}
 use lib.Seq.{getD-set-same, getD-set-other}
-use borrow.Author.Tests.{lt-ltb, le-ltb, eq-eqb, ne-eqb, eqb-true}
+use borrow.Author.Tests.{lt-ltb, le-ltb, eq-eqb, ne-eqb}
 use Rattle.units.specs.Tests.{order, less, equal, more}
-use Rattle.units.specs.Sums.{sumTo, sum-most, sum-same, sum-only, sum-swap, sum-changed, sum-ones, sum-le, sum-less}
+use Rattle.units.specs.Sums.{sum-most}
 use Rattle.units.specs.Picked.{keep}
-use Rattle.units.specs.Counts.{countTo}
-use Rattle.units.specs.Firsts.{firstTo, first-holds, first-before}
 use Rattle.units.specs.Places.{at, table, table-at, table-length}
-use Rattle.rows.specs.Rows.{rows, rowsATenant, highest, restsFor}
-use Rattle.rows.specs.Passes.{restingRows, freeRow}
+use Rattle.rows.specs.Rows.{rows, restsFor}
+use Rattle.rows.specs.Passes.{restingRows}
 use Rattle.levels.specs.Levels.{noNumber}
-use Rattle.book.specs.Book.{Book, sideAt, priceAt, sizeAt, ownerAt, numberAt, restingOf, firstFree, rested, withSizes, freed}
+use Rattle.book.specs.Book.{Book, sizeAt, ownerAt, restingOf, withSizes, freed}
 use Rattle.book.specs.Trading.{afterTrade, traded}
-use Rattle.book.specs.TradingLaws.{traded-most}
 use Rattle.book.specs.Opening.{afterOpening}
 use Rattle.book.specs.OpeningLaws.{opening-most, never-locked-or-crossed}
-use Rattle.book.specs.Sound.{SoundRow, SoundBook, Uncrossed}
+use Rattle.book.specs.Sound.{SoundBook, Uncrossed}
 use Rattle.book.specs.Fit.{Whole, Fit}
 
 -- ---- fit for a match
@@ -137,7 +132,7 @@ module _ {b : Book} {next : ℕ} (s : SoundBook b next) where
     trade-resting = resting-shrinks b after-trade (λ i p. trade-less i (omega (arith, s .places)))
 
   module _ (row : ℕ) where
-    free-less : (i : ℕ) → i < rows → at (set (b .sizes) row 0) i ≤ sizeAt b i
+    pub free-less : (i : ℕ) → i < rows → at (set (b .sizes) row 0) i ≤ sizeAt b i
     free-less i p = elim (ℕ-discrete i row) [
       | yes e ↦ rw (← e) (omega (arith, getD-set-same (b .sizes) i 0 0 (omega (arith, s .sizes-long))))
       | no e ↦ omega (arith, getD-set-other (b .sizes) row i 0 0 e)

@@ -4,7 +4,6 @@ use levels::passes::held_by;
 use levels::passes::level;
 use levels::passes::next_from;
 use rows::Column;
-use rows::NO_PRICE;
 use rows::row::wide;
 ghost use mathlib.Core.Path.{_≡_};
 ghost use Rattle.units.specs.Picked.{same};
@@ -21,6 +20,9 @@ pub struct Margin {
     pub left: u32,
 }
 
+// Past every key.
+const NO_KEY: u64 = 1000001;
+
 // Past every order number.
 const NO_NUMBER: u64 = 4294967296;
 
@@ -31,7 +33,7 @@ fn reached(side: u32, bound: u32, q: u32, sides: &Column, prices: &Column, sizes
 {
     let mut left: u32 = q;
     let mut floor: u64 = 0;
-    while floor < 1000001 {
+    while floor < NO_KEY {
         let k = best_from(side, bound, floor, sides, prices, sizes);
         let total = level(side, bound, k, sides, prices, sizes);
         if wide(left) < total {
@@ -62,7 +64,7 @@ pub fn margin_of(
 {
     if all <= wide(q) {
         Margin {
-            key: wide(NO_PRICE),
+            key: NO_KEY,
             left: q - all as u32,
         }
     } else {

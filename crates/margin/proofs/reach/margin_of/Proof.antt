@@ -13,9 +13,11 @@ margin-of-spec =
     tie.close
     (tie.spec
     (λ c κs. search needs)
-    (λ c κs. search needs)
     (λ c. search needs)
     (λ c. search needs)
     (λ c κs. search needs)
-    (λ c. let s = c .before .before .before in let a = s .args in rw (c .wide2 .ensures) (margin-of-all _ _ _ _ _ _ (keys-below (a .side) (a .bound) (a .sides .now) (a .prices .now) (a .sizes .now) (s .pre .0)) (s .pre .1) (omega (arith, c .before .before .wide .ensures))))
+    (λ c.
+    let s = c .before .before in
+    let a = s .args in
+    margin-of-all _ _ _ _ _ _ (keys-below (a .side) (a .bound) (a .sides .now) (a .prices .now) (a .sizes .now) (s .pre .0)) (s .pre .1) (omega (arith, c .before .wide .ensures)))
     (λ c. search needs))
