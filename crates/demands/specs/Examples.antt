@@ -39,7 +39,8 @@ use Rattle.session.specs.declared.TurnAnswer.the-variants as turn-answer
 use Rattle.session.specs.declared.OpenAnswer.the-variants as open-answer
 use Rattle.session.specs.Market.{Market}
 use Rattle.tally.specs.Tallies.{addedFrom}
-use Rattle.session.specs.Turn.{quotesIn, turnRefusal, afterTaking, cancelTurn, restTurn, filledOf, dispositionIn, bookAfter, restingShare, talliesAfter, tradeTurn, entryTurn, turnOf}
+use Rattle.session.specs.Turn.{quotesIn, turnRefusal, afterTaking, cancelTurn, restTurn, filledOf, dispositionIn, bookAfter, tradeTurn, entryTurn, turnOf}
+use Rattle.session.specs.Settle.{restingShare, talliesAfter}
 use Rattle.session.specs.Opening.{choiceOf, openRefusal, openQuiet, openAt, openOf}
 use Rattle.demands.specs.Markets.{terms, putTerms, awayQuote, order, quotes, open-to-all, sessionOn}
 

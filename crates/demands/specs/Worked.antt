@@ -32,7 +32,8 @@ use Rattle.session.specs.Market.{Market, Called}
 use Rattle.session.specs.Settings.{newSession, emptyBook, settingsOf}
 use Rattle.session.specs.Submit.{wellCounted, someMalformed, submitRefusal, submitOf}
 use Rattle.tally.specs.Tallies.{addedFrom}
-use Rattle.session.specs.Turn.{TurnDone, Printed, refused, turn, printed, quotesIn, turnRefusal, afterTaking, restTurn, filledOf, dispositionIn, bookAfter, restingShare, talliesAfter, tradeTurn, entryTurn, turnOf}
+use Rattle.session.specs.Turn.{TurnDone, Printed, refused, turn, printed, quotesIn, turnRefusal, afterTaking, restTurn, filledOf, dispositionIn, bookAfter, tradeTurn, entryTurn, turnOf}
+use Rattle.session.specs.Settle.{restingShare, talliesAfter}
 use Rattle.session.specs.Opening.{OpenDone, choiceOf, openRefusal, openQuiet, openOf}
 use Rattle.session.specs.Opening as opening
 use Rattle.demands.specs.Markets.{worked}
