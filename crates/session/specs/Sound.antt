@@ -9,10 +9,10 @@ use Rattle.units.specs.Picked.{same}
 use Rattle.rows.specs.Rows.{highest}
 use Rattle.book.specs.Book.{Book, sideAt, sizeAt}
 use Rattle.book.specs.Sound.{SoundBook, Uncrossed}
-use Rattle.judge.specs.declared.Terms.{Terms}
-use Rattle.judge.specs.declared.Away.{Away}
-use Rattle.judge.specs.Numbers.{largest, lastNumber}
-use Rattle.judge.specs.Entry.{malformed}
+use Rattle.entry.specs.declared.Terms.{Terms}
+use Rattle.entry.specs.declared.Away.{Away}
+use Rattle.entry.specs.Numbers.{largest, lastNumber}
+use Rattle.entry.specs.Entry.{malformed}
 use Rattle.lanes.specs.declared.Lanes.{Lanes}
 use Rattle.tally.specs.Tallies.{turnsInAll, boughtInAll, soldInAll}
 use Rattle.lanes.specs.Ring.{tenants, depth, allEntries, headOf, lenOf, waitingAt}

@@ -1,6 +1,6 @@
 // The session: settings, away quote, book, lanes, rotation and tallies of one option series, and the five calls on it.
-use judge::Away;
-use judge::Terms;
+use entry::Away;
+use entry::Terms;
 use lanes::Lanes;
 use tally::Tally;
 use units::Cents;
