@@ -1,48 +1,43 @@
 -- E1 to E12 of the paper, of the rules' own definitions: one record with a field for each, and one value of it.
 use mathlib.Core.Path.{_≡_, refl}
-use mathlib.Core.Bool.{true, false, _&&_, cond}
+use mathlib.Core.Bool.{true, false}
 use mathlib.Core.List.{List, [], _∷_}
-use Prim.Native.Nat.{ℕ, zero, suc}
+use Prim.Native.Nat.{ℕ}
 use Rattle.units.specs.Units.{cents, contracts}
 use Rattle.units.specs.GridLaws.{E4, e4 as grid-two}
 use Rattle.units.specs.Tests.{_and_, _or_, isNot, pick}
-use Rattle.units.specs.Cases.{lowerIf, higherIf}
+use Rattle.units.specs.Cases.{lowerIf}
 use Rattle.units.specs.Sums.{sumTo}
 use Rattle.units.specs.Picked.{same, lower, precedes}
 use Rattle.units.specs.Firsts.{firstTo}
 use Rattle.units.specs.Leasts.{leastTo, greatestTo}
-use Rattle.units.specs.Places.{at, table}
+use Rattle.units.specs.Places.{table}
 use Rattle.number.specs.Examples.{E12, e12 as numbers-read}
-use Rattle.rows.specs.Rows.{keyOf, within, openSize, buyPrice, sellPrice, restsFor, isOrder}
-use Rattle.rows.specs.Passes.{highestBuy, lowestSell, standing, restingRows, orderRow, freeRow}
-use Rattle.book.specs.Book.{Book, bestOffer, crosses, rested}
+use Rattle.rows.specs.Rows.{keyOf, within, openSize, buyPrice, sellPrice, restsFor}
+use Rattle.rows.specs.Passes.{highestBuy, lowestSell, standing, restingRows}
+use Rattle.book.specs.Book.{Book, bestOffer, crosses}
 use Rattle.book.specs.Allocation.{classOf, before, level, earlier, ahead, rank, left, whole, leftover, extra, fill}
 use Rattle.book.specs.Records.{soonerThan, pos, ofTraded, records, recorded, fieldOf, written}
-use Rattle.book.specs.Trading.{ofTenant, filled, traded, afterTrade, tradeRecords, tradeWritten}
+use Rattle.book.specs.Trading.{filled, traded, afterTrade, tradeRecords, tradeWritten}
 use Rattle.book.specs.Opening.{sortKey, volume, bought, sold, matched, afterFills, buyGoes, sellGoes, afterOpening, openingRecords, openingWritten}
-use Rattle.judge.specs.declared.Entry.{Entry}
-use Rattle.judge.specs.Entry.{isCancel}
-use Rattle.judge.specs.Quotes.{lowerOffer, quotesOf}
-use Rattle.judge.specs.TurnDown.{notYet, offGrid, atStrike, noOffer, unbid, noBid, converts, asJudged, abovePercent, tooWide, farBuy, farSell, farPrice, mightRest, noRoom, usedUp, turnDown}
-use Rattle.judge.specs.Bound.{buyBound, sellBound, boundOf}
+use Rattle.entry.specs.Quotes.{lowerOffer, quotesOf}
+use Rattle.checks.specs.TurnDown.{notYet, offGrid, atStrike, noOffer, unbid, noBid, converts, asJudged, tooWide, farBuy, farSell, farPrice, mightRest, noRoom, usedUp, turnDown}
+use Rattle.judge.specs.Bound.{buyBound, boundOf}
 use Rattle.judge.specs.Disposition.{beyondDrill, atAway, dispositionOf}
 use Rattle.judge.specs.Verdict.{verdict}
-use Rattle.lanes.specs.declared.Lanes.{Lanes}
-use Rattle.lanes.specs.declared.Served.{Served}
-use Rattle.lanes.specs.declared.Served.the-variants.{Lane, Nobody}
-use Rattle.lanes.specs.Ring.{entryAt, slot, waitingAt, taken}
+use Rattle.judge.specs.Examples.{E5, E9, examples as orders-judged}
+use Rattle.lanes.specs.Ring.{entryAt, slot, waitingAt}
 use Rattle.lanes.specs.Rotation.{distance, servedBy, served}
-use Rattle.price.specs.declared.Choice.the-variants.{At, NoneValid}
-use Rattle.price.specs.Amounts.{minimumAmount}
-use Rattle.price.specs.Price.{nearEither, valid, midpoint, usable, firstValid, priceOf}
+use Rattle.lanes.specs.Examples.{E10, e10 as lanes-served}
+use Rattle.price.specs.Price.{valid, midpoint, usable, firstValid, priceOf}
+use Rattle.price.specs.Examples.{E6, e6 as prices-chosen}
 use Rattle.session.specs.declared.TurnAnswer.the-variants as turn-answer
 use Rattle.session.specs.declared.OpenAnswer.the-variants as open-answer
 use Rattle.session.specs.Market.{Market}
-use Rattle.tally.specs.Tallies.{addedFrom}
-use Rattle.session.specs.Turn.{quotesIn, turnRefusal, afterTaking, cancelTurn, restTurn, filledOf, dispositionIn, bookAfter, tradeTurn, entryTurn, turnOf}
+use Rattle.session.specs.Turn.{quotesIn, turnRefusal, afterTaking, filledOf, dispositionIn, bookAfter, tradeTurn, entryTurn, turnOf}
 use Rattle.session.specs.Settle.{restingShare, talliesAfter}
-use Rattle.session.specs.Opening.{choiceOf, openRefusal, openQuiet, openAt, openOf}
-use Rattle.demands.specs.Markets.{terms, putTerms, awayQuote, order, quotes, open-to-all, sessionOn}
+use Rattle.session.specs.Opening.{choiceOf, openRefusal, openAt, openOf}
+use Rattle.demands.specs.Markets.{terms, awayQuote, sessionOn}
 
 -- offers at one price, of the sizes given, numbered from 1
 abbrev offersOf : List ℕ → ℕ → Book
@@ -101,27 +96,6 @@ eleventh = record {
   entries = [];
 }
 
--- lanes 0, 3, 5 hold 20, 1, 1; the rotation at 0
-abbrev tenth : Lanes
-tenth = record {
-  heads = 0 ∷ 0 ∷ 0 ∷ 0 ∷ 0 ∷ 0 ∷ 0 ∷ 0 ∷ 0 ∷ [];
-  lens = 20 ∷ 0 ∷ 0 ∷ 1 ∷ 0 ∷ 1 ∷ 0 ∷ 0 ∷ 0 ∷ [];
-  place = 0;
-}
-
--- the lanes served, where each is then taken
-abbrev servedFor : ℕ → Lanes → List Served
-servedFor zero l = []
-servedFor (suc n) l = served l ∷ servedFor n (next (served l))
-  where
-    next : Served → Lanes
-    next (Lane t) = taken l t
-    next Nobody = l
-
--- a market buy of one, now
-abbrev marketBuy : Entry
-marketBuy = order 2 1 2 0 1
-
 pub record Examples : Type 0 where
   -- E1 sizes 5, 5, 5, 5, Q 10: 3, 3, 2, 2.
   pub e1 : shares (5 ∷ 5 ∷ 5 ∷ 5 ∷ []) 4 10 ≡ 3 ∷ 3 ∷ 2 ∷ 2 ∷ []
@@ -132,16 +106,9 @@ pub record Examples : Type 0 where
   -- E4 grid 2: 299 and 305 pass, 301 doesn't.
   pub e4 : E4
   -- E5 x 10, least 25, greatest 500: 90/110 passes, 85/115 is 15.
-  pub e5 :
-      (turnDown marketBuy (quotes 90 110) (terms 10 20 0) open-to-all ≡ 0)
-      × (turnDown marketBuy (quotes 85 115) (terms 10 20 0) open-to-all ≡ 15)
+  pub e5 : E5
   -- E6 grid 1, away 100/151: midpoint 125 valid. 100/153: 126 isn't; last print 120 is; so is close 128.
-  pub e6 :
-      (firstValid 100 151 0 0 ≡ At (cents 125))
-      × (midpoint 100 153 ≡ 126)
-      × (valid 100 153 126 ≡ false)
-      × (firstValid 100 153 120 128 ≡ At (cents 120))
-      × (firstValid 100 153 0 128 ≡ At (cents 128))
+  pub e6 : E6
   -- E7 offers 103×4, 105×6, away offer 104, D and F 10, day buy 20 at 106: 4 at 103, disposition 4.
   pub e7 :
       (turnOf seventh 216 [] .answer ≡ turn-answer.Accepted 0 3 (contracts 4) 4 1)
@@ -152,11 +119,9 @@ pub record Examples : Type 0 where
       (turnOf eighth 216 [] .answer ≡ turn-answer.Accepted 0 3 (contracts 2) 3 2)
       × (turnOf eighth 216 [] .market .book .sizes ≡ 0 ∷ 0 ∷ 0 ∷ [])
   -- E9 put, strike 500, grid 2: buy 500 is 12, 495 passes.
-  pub e9 :
-      (turnDown (order 1 1 1 500 1) (quotes 0 0) putTerms open-to-all ≡ 12)
-      × (turnDown (order 1 1 1 495 1) (quotes 0 0) putTerms open-to-all ≡ 0)
+  pub e9 : E9
   -- E10 rotation at 0, lanes 0, 3, 5 hold 20, 1, 1: turns go 0, 3, 5, 0, 0.
-  pub e10 : servedFor 5 tenth ≡ Lane 0 ∷ Lane 3 ∷ Lane 5 ∷ Lane 0 ∷ Lane 0 ∷ []
+  pub e10 : E10
   -- E11 P 105; buys #1 110×5, #2 105×5; sells #3 104×4, #4 108×3: volume 4, #1 and #3 trade 4, then #1 is cancelled.
   pub e11 :
       (openOf eleventh 216 [] .answer ≡ open-answer.AtPrice (cents 105) (contracts 4) 2)
@@ -166,26 +131,24 @@ pub record Examples : Type 0 where
   pub e12 : E12
 
 pub examples : Examples
-unfolding sumTo same lower precedes firstTo leastTo greatestTo table keyOf within openSize buyPrice sellPrice restsFor isOrder
-    highestBuy lowestSell standing restingRows orderRow freeRow bestOffer crosses rested classOf before level earlier ahead rank left whole
-    leftover extra fill soonerThan pos ofTraded records recorded fieldOf written ofTenant filled traded afterTrade tradeRecords
-    tradeWritten sortKey volume bought sold matched afterFills buyGoes sellGoes afterOpening openingRecords openingWritten lowerOffer quotesOf
-    notYet offGrid atStrike noOffer unbid noBid converts asJudged abovePercent tooWide farBuy farSell farPrice mightRest noRoom usedUp turnDown
-    buyBound sellBound boundOf beyondDrill atAway dispositionOf verdict entryAt slot waitingAt taken distance servedBy served minimumAmount nearEither
-    valid midpoint usable firstValid priceOf addedFrom quotesIn turnRefusal afterTaking cancelTurn restTurn filledOf dispositionIn
-    bookAfter restingShare talliesAfter tradeTurn entryTurn turnOf choiceOf openRefusal openQuiet openAt openOf _and_ _or_ isNot pick lowerIf
-    higherIf
+unfolding sumTo same lower precedes firstTo leastTo greatestTo table keyOf within openSize buyPrice sellPrice restsFor highestBuy lowestSell
+    standing restingRows bestOffer crosses classOf before level earlier ahead rank left whole leftover extra fill soonerThan pos ofTraded
+    records recorded fieldOf written filled traded afterTrade tradeRecords tradeWritten sortKey volume bought sold matched afterFills
+    buyGoes sellGoes afterOpening openingRecords openingWritten lowerOffer quotesOf notYet offGrid atStrike noOffer unbid noBid converts
+    asJudged tooWide farBuy farSell farPrice mightRest noRoom usedUp turnDown buyBound boundOf beyondDrill atAway dispositionOf verdict
+    entryAt slot waitingAt distance servedBy served valid midpoint usable firstValid priceOf quotesIn turnRefusal afterTaking filledOf
+    dispositionIn bookAfter tradeTurn entryTurn turnOf choiceOf openRefusal openAt openOf _and_ _or_ isNot pick lowerIf
 examples = record {
   e1 = refl;
   e2 = refl;
   e3 = refl;
   e4 = grid-two;
-  e5 = (refl, refl);
-  e6 = (refl, refl, refl, refl, refl);
+  e5 = orders-judged .0;
+  e6 = prices-chosen;
   e7 = (refl, refl, refl);
   e8 = (refl, refl);
-  e9 = (refl, refl);
-  e10 = refl;
+  e9 = orders-judged .1;
+  e10 = lanes-served;
   e11 = (refl, refl, refl);
   e12 = numbers-read;
 }

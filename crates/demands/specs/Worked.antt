@@ -17,11 +17,12 @@ use Rattle.book.specs.Book.{bestOffer, crosses, rested}
 use Rattle.book.specs.Allocation.{classOf, before, earlier, left, fill}
 use Rattle.book.specs.Records.{soonerThan, pos, ofTraded, records, recorded, fieldOf, written}
 use Rattle.book.specs.Trading.{ofTenant, filled, traded, afterTrade, tradeRecords, tradeWritten}
-use Rattle.judge.specs.Numbers.{oneOrTwo, from1to}
-use Rattle.judge.specs.Settings.{seriesInRange, protectionsInRange, printsInRange, inRange}
-use Rattle.judge.specs.Entry.{priced, newOrder, cancelling, malformed}
-use Rattle.judge.specs.Quotes.{lowerOffer, quotesOf}
-use Rattle.judge.specs.TurnDown.{notYet, offGrid, atStrike, noOffer, unbid, noBid, converts, asJudged, tooWide, farBuy, farSell, farPrice, mightRest, noRoom, usedUp, turnDown}
+use Rattle.tally.specs.Tallies.{addedFrom}
+use Rattle.entry.specs.Numbers.{oneOrTwo, from1to}
+use Rattle.entry.specs.Settings.{seriesInRange, protectionsInRange, printsInRange, inRange}
+use Rattle.entry.specs.Entry.{priced, newOrder, cancelling, malformed}
+use Rattle.entry.specs.Quotes.{lowerOffer, quotesOf}
+use Rattle.checks.specs.TurnDown.{notYet, offGrid, atStrike, noOffer, unbid, noBid, converts, asJudged, tooWide, farBuy, farSell, farPrice, mightRest, noRoom, usedUp, turnDown}
 use Rattle.judge.specs.Bound.{buyBound, sellBound, boundOf}
 use Rattle.judge.specs.Disposition.{beyondDrill, atAway, dispositionOf}
 use Rattle.judge.specs.Verdict.{verdict}
@@ -31,7 +32,6 @@ use Rattle.price.specs.Price.{usable, midpoint, valid, firstValid, priceOf}
 use Rattle.session.specs.Market.{Market, Called}
 use Rattle.session.specs.Settings.{newSession, emptyBook, settingsOf}
 use Rattle.session.specs.Submit.{wellCounted, someMalformed, submitRefusal, submitOf}
-use Rattle.tally.specs.Tallies.{addedFrom}
 use Rattle.session.specs.Turn.{TurnDone, Printed, refused, turn, printed, quotesIn, turnRefusal, afterTaking, restTurn, filledOf, dispositionIn, bookAfter, tradeTurn, entryTurn, turnOf}
 use Rattle.session.specs.Settle.{restingShare, talliesAfter}
 use Rattle.session.specs.Opening.{OpenDone, choiceOf, openRefusal, openQuiet, openOf}

@@ -7,11 +7,11 @@ use Rattle.units.specs.Units.{cents}
 use Rattle.units.specs.Tests.{_and_, pick}
 use Rattle.units.specs.Cases.{Case, _when_, leastOf, greatestOf}
 use Rattle.rows.specs.Rows.{highest}
-use Rattle.judge.specs.declared.Entry.{Entry}
-use Rattle.judge.specs.declared.Quotes.{Quotes}
-use Rattle.judge.specs.declared.Terms.{Terms}
-use Rattle.judge.specs.Numbers.{present}
-use Rattle.judge.specs.Entry.{isLimit, isMarket, isBuy}
+use Rattle.entry.specs.declared.Entry.{Entry}
+use Rattle.entry.specs.declared.Quotes.{Quotes}
+use Rattle.entry.specs.declared.Terms.{Terms}
+use Rattle.entry.specs.Numbers.{present}
+use Rattle.entry.specs.Entry.{isLimit, isMarket, isBuy}
 
 -- The buy bound is the least of: the limit; the away offer if any; NBO + D if any; for a market buy of a put, strike − 1.
 abbrev pub buyBars : Entry → Quotes → Terms → List Case

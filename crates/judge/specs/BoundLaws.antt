@@ -13,13 +13,14 @@ use Rattle.units.specs.Tests.{pick-yes, pick-no, and-true, holds-not-fails}
 use Rattle.units.specs.Cases.{leastOf, greatestOf}
 use Rattle.units.specs.CaseBounds.{lower-above, higher-below, least-start, least-most, greatest-start, greatest-least}
 use Rattle.rows.specs.Rows.{highest}
-use Rattle.judge.specs.declared.Entry.{Entry}
-use Rattle.judge.specs.declared.Quotes.{Quotes}
-use Rattle.judge.specs.declared.Terms.{Terms}
-use Rattle.judge.specs.Numbers.{present}
-use Rattle.judge.specs.Entry.{isLimit, isBuy, isSell, newOrder}
-use Rattle.judge.specs.EntryLaws.{Proper, day-limit-might-rest, new-proper, judged-proper}
-use Rattle.judge.specs.TurnDown.{asJudged, mightRest}
+use Rattle.entry.specs.declared.Entry.{Entry}
+use Rattle.entry.specs.declared.Quotes.{Quotes}
+use Rattle.entry.specs.declared.Terms.{Terms}
+use Rattle.entry.specs.Numbers.{present}
+use Rattle.entry.specs.Entry.{isLimit, isBuy, isSell, newOrder}
+use Rattle.entry.specs.EntryLaws.{Proper, new-proper}
+use Rattle.checks.specs.AsJudgedLaws.{day-limit-might-rest, judged-proper}
+use Rattle.checks.specs.TurnDown.{asJudged, mightRest}
 use Rattle.judge.specs.Bound.{buyBars, sellBars, buyBound, sellBound, boundOf}
 use Rattle.judge.specs.Disposition.{dispositionOf}
 use Rattle.judge.specs.DispositionLaws.{rests-day-limit, within-drill-buy, within-drill-sell, short-of-offer, short-of-bid}

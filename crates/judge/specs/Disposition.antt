@@ -6,11 +6,11 @@ use lib.Dec.{leb, ltb, eqb}
 use Rattle.units.specs.declared.Contracts.{Contracts}
 use Rattle.units.specs.Tests.{_and_, _or_}
 use Rattle.units.specs.Cases.{Case, _when_, firstOf}
-use Rattle.judge.specs.declared.Entry.{Entry}
-use Rattle.judge.specs.declared.Quotes.{Quotes}
-use Rattle.judge.specs.declared.Terms.{Terms}
-use Rattle.judge.specs.Numbers.{present}
-use Rattle.judge.specs.Entry.{isMarket, isBuy, isSell, isNow}
+use Rattle.entry.specs.declared.Entry.{Entry}
+use Rattle.entry.specs.declared.Quotes.{Quotes}
+use Rattle.entry.specs.declared.Terms.{Terms}
+use Rattle.entry.specs.Numbers.{present}
+use Rattle.entry.specs.Entry.{isMarket, isBuy, isSell, isNow}
 
 -- limit beyond the drill price (NBO + D for a buy, NBB − D for a sell; not given when that side was absent)
 unfoldable pub beyondDrill : Entry → Quotes → Terms → Bool

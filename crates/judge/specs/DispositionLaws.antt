@@ -8,11 +8,11 @@ use borrow.Author.Tests.{ltb-false, leb-false}
 use Rattle.units.specs.declared.Contracts.{Contracts}
 use Rattle.units.specs.Tests.{and-holds, and-false, or-false}
 use Rattle.units.specs.CaseLaws.{caseAt, none, apart, given, given-none, none-at}
-use Rattle.judge.specs.declared.Entry.{Entry}
-use Rattle.judge.specs.declared.Quotes.{Quotes}
-use Rattle.judge.specs.declared.Terms.{Terms}
-use Rattle.judge.specs.Numbers.{present}
-use Rattle.judge.specs.Entry.{isMarket, isBuy, isSell, isNow}
+use Rattle.entry.specs.declared.Entry.{Entry}
+use Rattle.entry.specs.declared.Quotes.{Quotes}
+use Rattle.entry.specs.declared.Terms.{Terms}
+use Rattle.entry.specs.Numbers.{present}
+use Rattle.entry.specs.Entry.{isMarket, isBuy, isSell, isNow}
 use Rattle.judge.specs.Disposition.{beyondDrill, atAway, dispositions, dispositionOf}
 
 module _ (e : Entry) (q : Quotes) (t : Terms) (left : Contracts) where

@@ -1,13 +1,13 @@
 -- The whole judgement of a new order.
 use lib.Dec.{ltb}
 use Rattle.units.specs.Tests.{pick}
-use Rattle.judge.specs.declared.Entry.{Entry}
-use Rattle.judge.specs.declared.Quotes.{Quotes}
-use Rattle.judge.specs.declared.Terms.{Terms}
-use Rattle.judge.specs.declared.Standing.{Standing}
+use Rattle.entry.specs.declared.Entry.{Entry}
+use Rattle.entry.specs.declared.Quotes.{Quotes}
+use Rattle.entry.specs.declared.Terms.{Terms}
+use Rattle.checks.specs.declared.Standing.{Standing}
+use Rattle.checks.specs.TurnDown.{asJudged, turnDown}
 use Rattle.judge.specs.declared.Judged.{Judged}
 use Rattle.judge.specs.declared.Judged.the-variants.{TurnedDown, Rests, Trades}
-use Rattle.judge.specs.TurnDown.{asJudged, turnDown}
 use Rattle.judge.specs.Bound.{boundOf}
 
 -- turned down; or, once open, it trades within its bound; before opening a day limit simply rests

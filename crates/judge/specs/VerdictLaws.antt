@@ -10,17 +10,18 @@ use Rattle.units.specs.declared.Contracts.{Contracts}
 use Rattle.units.specs.Grid.{lowestOf}
 use Rattle.units.specs.Tests.{pick}
 use Rattle.rows.specs.Rows.{rowsATenant, highest}
-use Rattle.judge.specs.declared.Entry.{Entry}
-use Rattle.judge.specs.declared.Quotes.{Quotes}
-use Rattle.judge.specs.declared.Terms.{Terms}
-use Rattle.judge.specs.declared.Standing.{Standing}
+use Rattle.entry.specs.declared.Entry.{Entry}
+use Rattle.entry.specs.declared.Quotes.{Quotes}
+use Rattle.entry.specs.declared.Terms.{Terms}
+use Rattle.entry.specs.Numbers.{lastNumber}
+use Rattle.entry.specs.Entry.{newOrder}
+use Rattle.entry.specs.EntryLaws.{Proper, new-proper}
+use Rattle.checks.specs.declared.Standing.{Standing}
+use Rattle.checks.specs.AsJudgedLaws.{day-limit-might-rest, judged-proper}
+use Rattle.checks.specs.TurnDown.{asJudged, mightRest, turnDown}
+use Rattle.checks.specs.TurnDownLaws.{number-left, room-left, day-limit, unchanged}
 use Rattle.judge.specs.declared.Judged.{Judged}
 use Rattle.judge.specs.declared.Judged.the-variants.{TurnedDown, Rests, Trades}
-use Rattle.judge.specs.Numbers.{lastNumber}
-use Rattle.judge.specs.Entry.{newOrder}
-use Rattle.judge.specs.EntryLaws.{Proper, new-proper, day-limit-might-rest, judged-proper}
-use Rattle.judge.specs.TurnDown.{asJudged, mightRest, turnDown}
-use Rattle.judge.specs.TurnDownLaws.{number-left, room-left, day-limit, unchanged}
 use Rattle.judge.specs.Bound.{boundOf}
 use Rattle.judge.specs.BoundLaws.{judged-rests}
 use Rattle.judge.specs.Disposition.{dispositionOf}

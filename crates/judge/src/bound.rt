@@ -1,20 +1,45 @@
 // The bound within which an order trades.
-use crate::Entry;
-use crate::LIMIT;
-use crate::MARKET;
-use crate::Quotes;
-use crate::Terms;
-use crate::words::both;
-use crate::words::higher;
-use crate::words::less;
-use crate::words::lower;
-use crate::words::plus;
-use crate::words::wide;
+use entry::Entry;
+use entry::LIMIT;
+use entry::MARKET;
+use entry::Quotes;
+use entry::Terms;
+use entry::words::less;
+use entry::words::plus;
+use entry::words::wide;
 use rows::BUY;
 use rows::HIGHEST;
 use units::Cents;
+use units::words::both;
 ghost use mathlib.Core.Path.{_≡_};
+ghost use Rattle.units.specs.Cases.{lowerIf, higherIf};
 ghost use Rattle.judge.specs.Bound.{buyBound, sellBound, boundOf};
+
+// The lesser of the bound and, where the test holds, a price; a price and a buffer together may be wide.
+fn lower(test: bool, price: u64, bound: u32) -> u32
+    ensures { λ r. ⌜ r ≡ lowerIf test price bound ⌝ }
+{
+    if test {
+        if price < bound as u64 {
+            price as u32
+        } else {
+            bound
+        }
+    } else {
+        bound
+    }
+}
+
+// The greater of the bound and, where the test holds, a price.
+fn higher(test: bool, price: u32, bound: u32) -> u32
+    ensures { λ r. ⌜ r ≡ higherIf test price bound ⌝ }
+{
+    if test {
+        if bound < price { price } else { bound }
+    } else {
+        bound
+    }
+}
 
 // A market buy of a put stays below the strike.
 fn buy_bound(e: Entry, q: Quotes, t: Terms) -> u32

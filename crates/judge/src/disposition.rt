@@ -1,18 +1,18 @@
 // What becomes of an order that has traded.
-use crate::Entry;
-use crate::MARKET;
-use crate::NOW;
-use crate::Quotes;
-use crate::Terms;
-use crate::words::both;
-use crate::words::either;
-use crate::words::first;
-use crate::words::less;
-use crate::words::plus;
-use crate::words::wide;
+use entry::Entry;
+use entry::MARKET;
+use entry::NOW;
+use entry::Quotes;
+use entry::Terms;
+use entry::words::less;
+use entry::words::plus;
+use entry::words::wide;
 use rows::BUY;
 use rows::SELL;
 use units::Contracts;
+use units::words::both;
+use units::words::either;
+use units::words::first;
 ghost use mathlib.Core.Path.{_≡_};
 ghost use Rattle.judge.specs.Disposition.{beyondDrill, atAway, dispositionOf};
 

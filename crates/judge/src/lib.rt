@@ -1,87 +1,10 @@
-// How one entry is judged, from a few numbers and no rows: its form, the settings' ranges, the numbers by which it is turned down,
-// the bound within which it trades, and its disposition.
+// How one entry is judged, from a few numbers and no rows: turned down, or the bound within which it trades, and its disposition.
+use entry::Entry;
 use units::Cents;
-use units::Contracts;
-use units::grid::Grid;
 
-pub mod best_quotes;
 mod bound;
 pub mod disposition;
-pub mod form;
-pub mod ranges;
-mod turn_down;
 pub mod verdict;
-mod words;
-
-pub const LIMIT: u32 = 1;
-
-pub const MARKET: u32 = 2;
-
-pub const CANCEL: u32 = 3;
-
-pub const DAY: u32 = 1;
-
-pub const NOW: u32 = 2;
-
-// The settings as given. The option's type is 1 call or 2 put; print and close are 0 where there is none.
-pub struct Settings {
-    pub allocation: u32,
-    pub grid: u32,
-    pub option: u32,
-    pub strike: Cents,
-    pub drill: Cents,
-    pub far: Cents,
-    pub percent: u32,
-    pub least: Cents,
-    pub greatest: Cents,
-    pub print: Cents,
-    pub close: Cents,
-}
-
-// The settings as accepted: the grid in place of its number, and whether the option is a put.
-pub struct Terms {
-    pub allocation: u32,
-    pub grid: Grid,
-    pub put: bool,
-    pub strike: Cents,
-    pub drill: Cents,
-    pub far: Cents,
-    pub percent: u32,
-    pub least: Cents,
-    pub greatest: Cents,
-    pub print: Cents,
-    pub close: Cents,
-}
-
-// An entry as given: six numbers. Kind 1 limit, 2 market, 3 cancel; side 1 buy, 2 sell; life 1 day, 2 now.
-pub struct Entry {
-    pub kind: u32,
-    pub side: u32,
-    pub life: u32,
-    pub price: Cents,
-    pub size: Contracts,
-    pub number: u32,
-}
-
-// The away quote; 0 is absent.
-pub struct Away {
-    pub bid: Cents,
-    pub offer: Cents,
-}
-
-// The best quotes, book and away together, and the away quote by itself; all before the order trades.
-pub struct Quotes {
-    pub nbb: Cents,
-    pub nbo: Cents,
-    pub away: Away,
-}
-
-// Where the session stands as the entry is taken: whether it is open, the tenant's resting rows, and the next order number.
-pub struct Standing {
-    pub opened: bool,
-    pub resting: u32,
-    pub next: u64,
-}
 
 // A new order is turned down by a number; or it rests before the opening, and trades within a bound after it, as judged.
 pub enum Judged {

@@ -1,12 +1,12 @@
 // The whole judgement of a new order.
-use crate::Entry;
 use crate::Judged;
-use crate::Quotes;
-use crate::Standing;
-use crate::Terms;
 use crate::bound::bound;
-use crate::turn_down::as_judged;
-use crate::turn_down::turn_down;
+use checks::Standing;
+use checks::turn_down::as_judged;
+use checks::turn_down::turn_down;
+use entry::Entry;
+use entry::Quotes;
+use entry::Terms;
 ghost use mathlib.Core.Path.{_≡_};
 ghost use Rattle.judge.specs.Verdict.{verdict};
 

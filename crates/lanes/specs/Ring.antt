@@ -4,7 +4,7 @@ use Prim.Native.Nat.{ℕ, zero, suc, _+_, _-_, _*_, _%_}
 use lib.ListN.{set, replicate}
 use Rattle.units.specs.Units.{cents, contracts}
 use Rattle.units.specs.Places.{at}
-use Rattle.judge.specs.declared.Entry.{Entry}
+use Rattle.entry.specs.declared.Entry.{Entry}
 use Rattle.lanes.specs.declared.Lanes.{Lanes}
 
 -- tenants 0 to 8

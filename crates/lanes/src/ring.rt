@@ -4,7 +4,7 @@ use crate::Entries;
 use crate::Lanes;
 use crate::NUMBERS;
 use crate::TENANTS;
-use judge::Entry;
+use entry::Entry;
 use units::Cents;
 use units::Contracts;
 ghost use mathlib.Core.Path.{_≡_};

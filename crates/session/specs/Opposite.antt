@@ -2,7 +2,7 @@
 use Prim.Native.Nat.{ℕ}
 use lib.Dec.{eqb}
 use Rattle.units.specs.Tests.{pick}
-use Rattle.judge.specs.declared.Entry.{Entry}
+use Rattle.entry.specs.declared.Entry.{Entry}
 
 abbrev pub otherSide : ℕ → ℕ
 otherSide side = pick (eqb side 1) 2 1

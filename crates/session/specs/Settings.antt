@@ -14,10 +14,10 @@ use Rattle.units.specs.Tests.{_or_, pick}
 use Rattle.units.specs.Cases.{_when_, firstOf}
 use Rattle.rows.specs.Rows.{highest}
 use Rattle.book.specs.Book.{Book}
-use Rattle.judge.specs.declared.Settings.{Settings}
-use Rattle.judge.specs.declared.Terms.{Terms}
-use Rattle.judge.specs.declared.Away.{Away}
-use Rattle.judge.specs.Settings.{inRange, termsOf}
+use Rattle.entry.specs.declared.Settings.{Settings}
+use Rattle.entry.specs.declared.Terms.{Terms}
+use Rattle.entry.specs.declared.Away.{Away}
+use Rattle.entry.specs.Settings.{inRange, termsOf}
 use Rattle.lanes.specs.Ring.{allEntries, empty}
 use Rattle.tally.specs.Tallies.{noTallies}
 use Rattle.session.specs.declared.Session.{Session}

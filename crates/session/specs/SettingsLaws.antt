@@ -11,9 +11,9 @@ use Rattle.units.specs.declared.grid.Chosen.{Chosen}
 use Rattle.units.specs.declared.grid.Chosen.the-variants.{One, NoSuch}
 use Rattle.units.specs.Grid.{gridOf}
 use Rattle.units.specs.Tests.{pick}
-use Rattle.judge.specs.declared.Settings.{Settings}
-use Rattle.judge.specs.declared.Terms.{Terms}
-use Rattle.judge.specs.Settings.{inRange, termsOf}
+use Rattle.entry.specs.declared.Settings.{Settings}
+use Rattle.entry.specs.declared.Terms.{Terms}
+use Rattle.entry.specs.Settings.{inRange, termsOf}
 use Rattle.lanes.specs.Ring.{allEntries}
 use Rattle.session.specs.declared.Session.{Session}
 use Rattle.session.specs.Market.{Market, marketOf}

@@ -10,9 +10,9 @@ use Rattle.levels.specs.Levels.{noNumber}
 use Rattle.book.specs.Book.{Book}
 use Rattle.book.specs.Sound.{SoundBook}
 use Rattle.book.specs.Trading.{ofTenant, filled, traded, tradeRecords}
-use Rattle.judge.specs.declared.Entry.{Entry}
-use Rattle.judge.specs.Entry.{isBuy}
-use Rattle.judge.specs.EntryLaws.{Proper}
+use Rattle.entry.specs.declared.Entry.{Entry}
+use Rattle.entry.specs.Entry.{isBuy}
+use Rattle.entry.specs.EntryLaws.{Proper}
 use Rattle.tally.specs.declared.Tally.{Tally}
 use Rattle.tally.specs.Tallies.{added, onlyFor, turnsInAll, boughtInAll, soldInAll}
 use Rattle.session.specs.declared.settle.Settled.{Settled}

@@ -21,9 +21,9 @@ use Rattle.book.specs.Trading.{ofTenant, filled, traded, tradeRecords}
 use Rattle.book.specs.Answers.{tradedOf}
 use Rattle.book.specs.declared.trading.Traded.{Traded}
 use Rattle.book.specs.TradingLaws.{traded-side, traded-most}
-use Rattle.judge.specs.declared.Entry.{Entry}
-use Rattle.judge.specs.Entry.{isBuy, isSell}
-use Rattle.judge.specs.EntryLaws.{Proper}
+use Rattle.entry.specs.declared.Entry.{Entry}
+use Rattle.entry.specs.Entry.{isBuy, isSell}
+use Rattle.entry.specs.EntryLaws.{Proper}
 use Rattle.tally.specs.declared.Tally.{Tally}
 use Rattle.tally.specs.Tallies.{added, onlyFor, inAll, turnsInAll, boughtInAll, soldInAll}
 use Rattle.tally.specs.TallyLaws.{added-length, added-same, added-twice, in-all-added}

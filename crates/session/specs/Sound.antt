@@ -6,10 +6,10 @@ use Prim.Native.Nat.{ℕ, _+_, _*_, _-_, _≤_, _<_}
 use lib.ListN.{length}
 use Rattle.rows.specs.Rows.{highest}
 use Rattle.book.specs.Sound.{SoundBook, Uncrossed}
-use Rattle.judge.specs.declared.Terms.{Terms}
-use Rattle.judge.specs.declared.Away.{Away}
-use Rattle.judge.specs.Numbers.{largest, lastNumber}
-use Rattle.judge.specs.Entry.{malformed}
+use Rattle.entry.specs.declared.Terms.{Terms}
+use Rattle.entry.specs.declared.Away.{Away}
+use Rattle.entry.specs.Numbers.{largest, lastNumber}
+use Rattle.entry.specs.Entry.{malformed}
 use Rattle.lanes.specs.declared.Lanes.{Lanes}
 use Rattle.tally.specs.Tallies.{turnsInAll, boughtInAll, soldInAll, Fitting}
 use Rattle.lanes.specs.Ring.{tenants, depth, allEntries, headOf, lenOf, waitingAt}

@@ -7,8 +7,8 @@ use lib.ListN.{length}
 use Rattle.units.specs.Tests.{_and_, isNot, pick}
 use Rattle.units.specs.Cases.{Case, _when_, firstOf}
 use Rattle.units.specs.Firsts.{firstTo}
-use Rattle.judge.specs.Numbers.{from1to}
-use Rattle.judge.specs.Entry.{malformed}
+use Rattle.entry.specs.Numbers.{from1to}
+use Rattle.entry.specs.Entry.{malformed}
 use Rattle.lanes.specs.declared.Lanes.{Lanes}
 use Rattle.lanes.specs.Ring.{tenants, depth, bulk, entryAt, lenOf, putAll, joined}
 use Rattle.session.specs.declared.Session.{Session}

@@ -11,8 +11,8 @@ use Rattle.units.specs.Tests.{_and_, isNot, pick, and-true, not-holds, not-fals
 use Rattle.units.specs.CaseLaws.{given-none}
 use Rattle.units.specs.Firsts.{firstTo, first-before}
 use Rattle.units.specs.Loops.{Sought, seek-finds, seek-ends}
-use Rattle.judge.specs.Entry.{malformed}
-use Rattle.judge.specs.Numbers.{from1to}
+use Rattle.entry.specs.Entry.{malformed}
+use Rattle.entry.specs.Numbers.{from1to}
 use Rattle.lanes.specs.declared.Lanes.{Lanes}
 use Rattle.lanes.specs.Ring.{tenants, depth, bulk, entryAt, lenOf, putAll, joined}
 use Rattle.session.specs.declared.Session.{Session}

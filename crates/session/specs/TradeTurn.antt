@@ -15,9 +15,9 @@ use Rattle.rows.specs.Rows.{rows}
 use Rattle.book.specs.Book.{Book, bookOf, rested}
 use Rattle.book.specs.Fit.{Whole}
 use Rattle.book.specs.Trading.{filled, afterTrade, tradeRecords, tradeWritten}
-use Rattle.judge.specs.declared.Entry.{Entry}
-use Rattle.judge.specs.declared.Quotes.{Quotes}
-use Rattle.judge.specs.Numbers.{lastNumber}
+use Rattle.entry.specs.declared.Entry.{Entry}
+use Rattle.entry.specs.declared.Quotes.{Quotes}
+use Rattle.entry.specs.Numbers.{lastNumber}
 use Rattle.judge.specs.Disposition.{dispositionOf}
 use Rattle.tally.specs.declared.Tally.{Tally}
 use Rattle.session.specs.declared.Session.{Session}

@@ -10,13 +10,13 @@ use Rattle.units.specs.Cases.{Case, _when_, firstOf}
 use Rattle.rows.specs.Rows.{rows}
 use Rattle.book.specs.Book.{Book, bestBid, bestOffer, restingOf, rowOf, rested, freed}
 use Rattle.book.specs.Trading.{filled, afterTrade, tradeRecords, tradeWritten}
-use Rattle.judge.specs.declared.Entry.{Entry}
-use Rattle.judge.specs.declared.Quotes.{Quotes}
-use Rattle.judge.specs.declared.Standing.{Standing}
+use Rattle.entry.specs.declared.Entry.{Entry}
+use Rattle.entry.specs.declared.Quotes.{Quotes}
+use Rattle.entry.specs.Entry.{isCancel}
+use Rattle.entry.specs.Quotes.{quotesOf}
+use Rattle.checks.specs.declared.Standing.{Standing}
 use Rattle.judge.specs.declared.Judged.{Judged}
 use Rattle.judge.specs.declared.Judged.the-variants.{TurnedDown, Rests, Trades}
-use Rattle.judge.specs.Entry.{isCancel, isBuy}
-use Rattle.judge.specs.Quotes.{quotesOf}
 use Rattle.judge.specs.Disposition.{dispositionOf}
 use Rattle.judge.specs.Verdict.{verdict}
 use Rattle.lanes.specs.declared.Served.{Served}

@@ -9,7 +9,7 @@ use Rattle.units.specs.Tests.{isNot, pick}
 use Rattle.units.specs.Units.{contracts}
 use Rattle.rows.specs.Rows.{rows}
 use Rattle.book.specs.Book.{Book, rowOf, freed, rested}
-use Rattle.judge.specs.declared.Entry.{Entry}
+use Rattle.entry.specs.declared.Entry.{Entry}
 use Rattle.lanes.specs.declared.Lanes.{Lanes}
 use Rattle.lanes.specs.declared.Served.{Served}
 use Rattle.lanes.specs.declared.Served.the-variants.{Lane, Nobody}

@@ -1,7 +1,7 @@
 // The call away.
 use crate::Answered;
 use crate::Session;
-use judge::Away;
+use entry::Away;
 use rows::HIGHEST;
 use units::Cents;
 use units::words::either;

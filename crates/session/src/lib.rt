@@ -6,8 +6,8 @@ mod settle;
 pub mod submit;
 pub mod turn;
 
-use judge::Away;
-use judge::Terms;
+use entry::Away;
+use entry::Terms;
 use lanes::Lanes;
 use tally::Tally;
 use units::Cents;

@@ -1,11 +1,11 @@
 // The calls settings and away.
 use crate::Answered;
 use crate::Session;
-use judge::Away;
-use judge::Settings;
-use judge::Terms;
-use judge::ranges::in_range;
-use judge::ranges::terms_of;
+use entry::Away;
+use entry::Settings;
+use entry::Terms;
+use entry::ranges::in_range;
+use entry::ranges::terms_of;
 use lanes::Entries;
 use lanes::Lanes;
 use rows::Column;

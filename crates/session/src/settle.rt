@@ -3,7 +3,7 @@ use crate::credit::credit;
 use crate::credit::credit_row;
 use book::Records;
 use book::trading::trade;
-use judge::Entry;
+use entry::Entry;
 use rows::BUY;
 use rows::Column;
 use rows::SELL;

@@ -1,7 +1,7 @@
 // The call submit.
 use crate::Answered;
 use crate::Session;
-use judge::form::malformed;
+use entry::form::malformed;
 use lanes::DEPTH;
 use lanes::Entries;
 use lanes::NUMBERS;

@@ -4,7 +4,7 @@ use Prim.Native.Nat.{_-_}
 use native.Mathlib.Omega.{arith}
 use borrow.Author.Needs.{needs}
 use Rattle.units.specs.Loops.{Sought, seek-starts, seek-goes-on}
-use Rattle.judge.specs.Entry.{malformed}
+use Rattle.entry.specs.Entry.{malformed}
 use Rattle.session.specs.SubmitLaws.{badAt, malformed-found, malformed-none}
 use Rattle.session.proofs.submit.some_malformed.Statement.{statement}
 use Rattle.session.proofs.submit.some_malformed.Tie as tie

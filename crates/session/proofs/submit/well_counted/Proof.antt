@@ -1,6 +1,6 @@
 -- `session::submit::well_counted` meets its contract: the calls are the words of the rule.
 use borrow.Author.Needs.{needs}
-use Rattle.judge.specs.Numbers.{from1to}
+use Rattle.entry.specs.Numbers.{from1to}
 use Rattle.session.specs.Submit.{wellCounted}
 use Rattle.session.proofs.submit.well_counted.Statement.{statement}
 use Rattle.session.proofs.submit.well_counted.Tie as tie

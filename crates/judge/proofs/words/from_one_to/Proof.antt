@@ -1,8 +1,0 @@
--- `judge::words::from_one_to` meets its contract: the calls are the words of the rule.
-use Rattle.judge.specs.Numbers.{from1to}
-use Rattle.judge.proofs.words.from_one_to.Statement.{statement}
-use Rattle.judge.proofs.words.from_one_to.Tie as tie
-
-pub from-one-to-spec : {M : Type 1} → statement M
-unfolding from1to
-from-one-to-spec = tie.close (tie.spec (λ _ _. tt) (λ c. cc))
