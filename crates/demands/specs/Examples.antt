@@ -34,7 +34,7 @@ use Rattle.price.specs.Examples.{E6, e6 as prices-chosen}
 use Rattle.session.specs.declared.TurnAnswer.the-variants as turn-answer
 use Rattle.session.specs.declared.OpenAnswer.the-variants as open-answer
 use Rattle.session.specs.Market.{Market}
-use Rattle.session.specs.Turn.{quotesIn, turnRefusal, afterTaking, filledOf, dispositionIn, bookAfter, tradeTurn, entryTurn, turnOf}
+use Rattle.session.specs.Turn.{quotesIn, turnRefusal, afterTaking, filledOf, dispositionIn, bookAfter, tradeTurn, orderTurn, entryTurn, turnOf}
 use Rattle.session.specs.Settle.{restingShare, talliesAfter}
 use Rattle.session.specs.Opening.{choiceOf, openRefusal, openAt, openOf}
 use Rattle.demands.specs.Markets.{terms, awayQuote, sessionOn}
@@ -137,7 +137,7 @@ unfolding sumTo same lower precedes firstTo leastTo greatestTo table keyOf withi
     buyGoes sellGoes afterOpening openingRecords openingWritten lowerOffer quotesOf notYet offGrid atStrike noOffer unbid noBid converts
     asJudged tooWide farBuy farSell farPrice mightRest noRoom usedUp turnDown buyBound boundOf beyondDrill atAway dispositionOf verdict
     entryAt slot waitingAt distance servedBy served valid midpoint usable firstValid priceOf quotesIn turnRefusal afterTaking filledOf
-    dispositionIn bookAfter tradeTurn entryTurn turnOf choiceOf openRefusal openAt openOf _and_ _or_ isNot pick lowerIf
+    dispositionIn bookAfter tradeTurn orderTurn entryTurn turnOf choiceOf openRefusal openAt openOf _and_ _or_ isNot pick lowerIf
 examples = record {
   e1 = refl;
   e2 = refl;

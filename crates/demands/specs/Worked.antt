@@ -32,7 +32,7 @@ use Rattle.price.specs.Price.{usable, midpoint, valid, firstValid, priceOf}
 use Rattle.session.specs.Market.{Market, Called}
 use Rattle.session.specs.Settings.{newSession, emptyBook, settingsOf}
 use Rattle.session.specs.Submit.{wellCounted, someMalformed, submitRefusal, submitOf}
-use Rattle.session.specs.Turn.{TurnDone, Printed, refused, turn, printed, quotesIn, turnRefusal, afterTaking, restTurn, filledOf, dispositionIn, bookAfter, tradeTurn, entryTurn, turnOf}
+use Rattle.session.specs.Turn.{TurnDone, Printed, refused, turn, printed, quotesIn, turnRefusal, afterTaking, restTurn, filledOf, dispositionIn, bookAfter, tradeTurn, orderTurn, entryTurn, turnOf}
 use Rattle.session.specs.Settle.{restingShare, talliesAfter}
 use Rattle.session.specs.Opening.{OpenDone, choiceOf, openRefusal, openQuiet, openOf}
 use Rattle.session.specs.Opening as opening
@@ -85,6 +85,6 @@ unfolding sumTo same lower precedes firstTo leastTo greatestTo table keyOf withi
     notYet offGrid atStrike noOffer unbid noBid converts asJudged tooWide farBuy farSell farPrice mightRest noRoom usedUp turnDown
     buyBound sellBound boundOf beyondDrill atAway dispositionOf verdict entryAt slot waitingAt put putAll joined taken distance servedBy served
     usable midpoint valid firstValid priceOf settingsOf wellCounted someMalformed submitRefusal submitOf addedFrom
-    quotesIn turnRefusal afterTaking restTurn filledOf dispositionIn bookAfter restingShare talliesAfter tradeTurn entryTurn turnOf
+    quotesIn turnRefusal afterTaking restTurn filledOf dispositionIn bookAfter restingShare talliesAfter tradeTurn orderTurn entryTurn turnOf
     choiceOf openRefusal openQuiet openOf _and_ _or_ isNot pick lowerIf higherIf
 worked-example = (refl, refl, refl, refl, refl, refl, refl, refl)

@@ -13,5 +13,6 @@ pub mod CreditLaws
 pub mod Turn
 pub mod TurnLaws
 pub mod TradeTurn
+pub mod OrderTurn
 pub mod Opening
 pub mod Sound

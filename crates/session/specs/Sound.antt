@@ -5,6 +5,7 @@ use mathlib.Core.List.{List}
 use Prim.Native.Nat.{ℕ, _+_, _*_, _-_, _≤_, _<_}
 use lib.ListN.{length}
 use Rattle.rows.specs.Rows.{highest}
+use Rattle.book.specs.Book.{Book}
 use Rattle.book.specs.Sound.{SoundBook, Uncrossed}
 use Rattle.entry.specs.declared.Terms.{Terms}
 use Rattle.entry.specs.declared.Away.{Away}
@@ -45,22 +46,26 @@ abbrev pub TurnsHeld : Session → Type 0
 TurnsHeld s = s .accepted ≡ true → Fitting (s .tallies)
 
 -- contracts bought and resting to buy are within 999,999 for each number given, and so are those sold and resting to sell: no sum overflows
-pub record SoundTallies (m : Market) : Type 0 where
-  pub long : length (m .session .tallies) ≡ tenants
-  pub turns : turnsInAll (m .session .tallies) ≤ mostTurns
-  pub bought : boughtInAll (m .session .tallies) + restingOn (m .book) 1 ≤ largest * (m .session .next - 1)
-  pub sold : soldInAll (m .session .tallies) + restingOn (m .book) 2 ≤ largest * (m .session .next - 1)
+pub record SoundTallies (s : Session) (b : Book) : Type 0 where
+  pub long : length (s .tallies) ≡ tenants
+  pub turns : turnsInAll (s .tallies) ≤ mostTurns
+  pub bought : boughtInAll (s .tallies) + restingOn b 1 ≤ largest * (s .next - 1)
+  pub sold : soldInAll (s .tallies) + restingOn b 2 ≤ largest * (s .next - 1)
+
+-- what judging and trading rest on, once settings are accepted
+pub record Ready (s : Session) (b : Book) : Type 0 where
+  pub book : SoundBook b (s .next)
+  pub terms : SoundTerms (s .terms)
+  pub next-least : 1 ≤ s .next
+  pub next-most : s .next ≤ lastNumber + 1
+  pub tallies : SoundTallies s b
 
 -- what a market has once settings are accepted
 pub record Held (m : Market) : Type 0 where
-  pub book : SoundBook (m .book) (m .session .next)
-  pub terms : SoundTerms (m .session .terms)
+  pub ready : Ready (m .session) (m .book)
   pub bid : m .session .away .bid .0 ≤ highest
   pub offer : m .session .away .offer .0 ≤ highest
   pub lanes : SoundLanes (m .session .lanes) (m .entries)
-  pub next-least : 1 ≤ m .session .next
-  pub next-most : m .session .next ≤ lastNumber + 1
-  pub tallies : SoundTallies m
   pub uncrossed : m .session .opened ≡ true → Uncrossed (m .book)
 
 -- a session with no accepted settings is sound with any columns

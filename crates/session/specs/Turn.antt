@@ -187,10 +187,13 @@ byVerdict m t was (TurnedDown code) = turnedDown m t was code
 byVerdict m t was (Rests e) = restTurn m t was e
 byVerdict m t was (Trades e bound) = tradeTurn m t was e bound
 
--- the entry of a taken turn: a cancel, or a new order by its verdict
+-- a new order by its verdict
+unfoldable pub orderTurn : Market → ℕ → List ℕ → Entry → TurnDone
+orderTurn m t was e = byVerdict m t was (verdict e (quotesIn m) (m .session .terms) (standingOf m t))
+
+-- the entry of a taken turn: a cancel, or a new order
 unfoldable pub entryTurn : Market → ℕ → List ℕ → Entry → TurnDone
-entryTurn m t was e =
-    pick (isCancel e) (cancelTurn m t was e) (byVerdict m t was (verdict e (quotesIn m) (m .session .terms) (standingOf m t)))
+entryTurn m t was e = pick (isCancel e) (cancelTurn m t was e) (orderTurn m t was e)
 
 -- the turn of the lane served, with its head entry
 abbrev pub turnOfLane : Market → List ℕ → Served → TurnDone

@@ -4,17 +4,24 @@ use crate::TurnAnswer;
 use crate::Turned;
 use crate::settle::settle;
 use book::Records;
+use book::quotes::best_bid;
+use book::quotes::best_offer;
 use book::resting::free;
 use book::resting::rest;
+use checks::Standing;
 use entry::Entry;
 use entry::Quotes;
+use entry::best_quotes::quotes_of;
+use judge::Judged;
 use judge::disposition::disposition;
+use judge::verdict::judge;
 use lanes::Served;
 use lanes::ring::taken;
 use lanes::rotation::served;
 use rows::Column;
 use rows::ROWS;
 use rows::passes::order_row;
+use rows::passes::resting_rows;
 use tally::Tally;
 use tally::count;
 use tally::turns_in_all;
@@ -32,8 +39,9 @@ ghost use Rattle.tally.specs.Tallies.{Countable};
 ghost use Rattle.entry.specs.Numbers.{lastNumber};
 ghost use Rattle.session.specs.Market.{marketOf};
 ghost use Rattle.session.specs.Sound.{TurnsHeld};
-ghost use Rattle.session.specs.Turn.{turnRefusal, afterTaking, turnDone, cancelTurn, restTurn, numbered, tradeTurn};
+ghost use Rattle.session.specs.Turn.{turnRefusal, afterTaking, turnDone, cancelTurn, restTurn, numbered, tradeTurn, orderTurn};
 ghost use Rattle.session.specs.TradeTurn.{disposed, CanTrade};
+ghost use Rattle.session.specs.OrderTurn.{CanOrder};
 
 // From this many turns in all on, no turn is taken.
 const MOST_TURNS: u64 = 1000000000000000000;
@@ -231,5 +239,54 @@ fn trade_turn(
     Turned {
         session: numbered(s, counted),
         answer: TurnAnswer::Accepted(t, number, filled, d, done.fills),
+    }
+}
+
+// A new order, by its verdict: turned down, or at rest before the opening, or traded after it.
+fn order_turn(
+    s: Session,
+    t: usize,
+    e: Entry,
+    sides: &mut Column,
+    prices: &mut Column,
+    sizes: &mut Column,
+    owners: &mut Column,
+    numbers: &mut Column,
+    records: &mut Records,
+) -> Turned
+    requires { ⌜ CanOrder s t e (bookOf (now sides) (now prices) (now sizes) (now owners) (now numbers)) (now records) ⌝ }
+    ensures { λ r. ⌜ ((entries : List ℕ) → turnDone r (bookOf (now (sides .exit)) (now (prices .exit)) (now (sizes .exit)) (now (owners .exit)) (now (numbers .exit))) entries (now (records .exit)) ≡ orderTurn (marketOf s (bookOf (now (sides .entry)) (now (prices .entry)) (now (sizes .entry)) (now (owners .entry)) (now (numbers .entry))) entries) t (now (records .entry)) e) ⌝ }
+{
+    let bid = best_bid(sides, prices, sizes);
+    let offer = best_offer(sides, prices, sizes);
+    let away = s.away;
+    let quotes = quotes_of(bid, offer, away);
+    let resting = resting_rows(owners, sizes, t as u32);
+    let standing = Standing {
+        opened: s.opened,
+        resting: resting,
+        next: s.next,
+    };
+    let terms = s.terms;
+    let verdict = judge(e, quotes, terms, standing);
+    match verdict {
+        Judged::TurnedDown(code) => Turned {
+            session: s,
+            answer: TurnAnswer::TurnedDown(t, code),
+        },
+        Judged::Rests(o) => rest_turn(s, t, o, sides, prices, sizes, owners, numbers),
+        Judged::Trades(o, bound) => trade_turn(
+            s,
+            t,
+            o,
+            bound,
+            quotes,
+            sides,
+            prices,
+            sizes,
+            owners,
+            numbers,
+            records,
+        ),
     }
 }
