@@ -14,5 +14,6 @@ pub mod Turn
 pub mod TurnLaws
 pub mod TradeTurn
 pub mod OrderTurn
+pub mod EntryTurn
 pub mod Opening
 pub mod Sound

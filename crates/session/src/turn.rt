@@ -9,6 +9,7 @@ use book::quotes::best_offer;
 use book::resting::free;
 use book::resting::rest;
 use checks::Standing;
+use entry::CANCEL;
 use entry::Entry;
 use entry::Quotes;
 use entry::best_quotes::quotes_of;
@@ -39,9 +40,10 @@ ghost use Rattle.tally.specs.Tallies.{Countable};
 ghost use Rattle.entry.specs.Numbers.{lastNumber};
 ghost use Rattle.session.specs.Market.{marketOf};
 ghost use Rattle.session.specs.Sound.{TurnsHeld};
-ghost use Rattle.session.specs.Turn.{turnRefusal, afterTaking, turnDone, cancelTurn, restTurn, numbered, tradeTurn, orderTurn};
+ghost use Rattle.session.specs.Turn.{turnRefusal, afterTaking, turnDone, cancelTurn, restTurn, numbered, tradeTurn, orderTurn, entryTurn};
 ghost use Rattle.session.specs.TradeTurn.{disposed, CanTrade};
 ghost use Rattle.session.specs.OrderTurn.{CanOrder};
+ghost use Rattle.session.specs.EntryTurn.{CanEnter};
 
 // From this many turns in all on, no turn is taken.
 const MOST_TURNS: u64 = 1000000000000000000;
@@ -288,5 +290,27 @@ fn order_turn(
             numbers,
             records,
         ),
+    }
+}
+
+// The entry of a taken turn: a cancel, or a new order.
+fn entry_turn(
+    s: Session,
+    t: usize,
+    e: Entry,
+    sides: &mut Column,
+    prices: &mut Column,
+    sizes: &mut Column,
+    owners: &mut Column,
+    numbers: &mut Column,
+    records: &mut Records,
+) -> Turned
+    requires { ⌜ CanEnter s t e (bookOf (now sides) (now prices) (now sizes) (now owners) (now numbers)) (now records) ⌝ }
+    ensures { λ r. ⌜ ((entries : List ℕ) → turnDone r (bookOf (now (sides .exit)) (now (prices .exit)) (now (sizes .exit)) (now (owners .exit)) (now (numbers .exit))) entries (now (records .exit)) ≡ entryTurn (marketOf s (bookOf (now (sides .entry)) (now (prices .entry)) (now (sizes .entry)) (now (owners .entry)) (now (numbers .entry))) entries) t (now (records .entry)) e) ⌝ }
+{
+    if e.kind == CANCEL {
+        cancel_turn(s, t, e, sizes, owners, numbers)
+    } else {
+        order_turn(s, t, e, sides, prices, sizes, owners, numbers, records)
     }
 }
