@@ -17,7 +17,7 @@ use Rattle.book.specs.Book.{Book, sideAt, sizeAt, numberAt, firstFree, r
 use Rattle.book.specs.AllocationLaws.{Distinct}
 use Rattle.book.specs.Trading.{reach, filled, traded, afterTrade}
 use Rattle.book.specs.TradingLaws.{traded-most, traded-side, all-traded}
-use Rattle.book.specs.Opening.{volume, bought, sold, matched, afterFills, afterOpening}
+use Rattle.book.specs.Opening.{volume, matched, afterFills, afterOpening}
 use Rattle.book.specs.OpeningLaws.{bought-other, sold-other, matched-most, opening-left, all-bought, all-sold}
 use Rattle.book.specs.Sound.{SoundBook}
 use Rattle.book.specs.SoundLaws.{free-less}

@@ -35,7 +35,6 @@ use Rattle.session.specs.declared.TurnAnswer.the-variants as turn-answer
 use Rattle.session.specs.declared.OpenAnswer.the-variants as open-answer
 use Rattle.session.specs.Market.{Market}
 use Rattle.session.specs.Turn.{quotesIn, turnRefusal, afterTaking, filledOf, dispositionIn, bookAfter, tradeTurn, orderTurn, entryTurn, turnOf}
-use Rattle.session.specs.Settle.{restingShare, talliesAfter}
 use Rattle.session.specs.Opening.{choiceOf, openRefusal, openAt, openOf}
 use Rattle.demands.specs.Markets.{terms, awayQuote, sessionOn}
 

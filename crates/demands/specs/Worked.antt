@@ -1,9 +1,8 @@
 -- The worked example of the paper: the answers of its calls, computed on the definitions.
 use mathlib.Core.Path.{_≡_, refl}
-use mathlib.Core.List.{List, [], _∷_}
+use mathlib.Core.List.{[], _∷_}
 use Prim.Native.Nat.{ℕ}
 use lib.ListN.{take}
-use Rattle.units.specs.Units.{cents, contracts}
 use Rattle.units.specs.Tests.{_and_, _or_, isNot, pick}
 use Rattle.units.specs.Cases.{lowerIf, higherIf}
 use Rattle.units.specs.Sums.{sumTo}

@@ -1,5 +1,4 @@
 -- What is looked for and counted over n rows, given by what each of their columns has at a place.
-use mathlib.Core.Bool.{Bool}
 use Prim.Native.Nat.{ℕ}
 use lib.Dec.{eqb}
 use Rattle.units.specs.Sums.{sumTo}

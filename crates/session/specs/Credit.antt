@@ -8,7 +8,7 @@ use Rattle.units.specs.Sums.{sumTo}
 use Rattle.units.specs.Picked.{keep, same}
 use Rattle.rows.specs.Rows.{rows}
 use Rattle.tally.specs.declared.Tally.{Tally}
-use Rattle.tally.specs.Tallies.{tallyAt, added, onlyFor, turnsInAll, boughtInAll, soldInAll}
+use Rattle.tally.specs.Tallies.{added, onlyFor, turnsInAll, boughtInAll, soldInAll}
 
 -- one row's contracts for its owner: bought on side 1, else sold
 abbrev pub rowCredit : List Tally → ℕ → ℕ → ℕ → List Tally

@@ -2,17 +2,16 @@
 use mathlib.Core.Path.{_≡_, refl, sym, ap, _∙_}
 use mathlib.Core.List.{List}
 use Prim.Native.Nat.{ℕ, _+_, _≤_, _<_, _^_}
-use native.Mathlib.Nat.{add-zero}
 use native.Mathlib.Decide.{ℕ-discrete}
 use native.Mathlib.Omega.{arith}
 use lib.Dec.{eqb}
 use borrow.Author.Tests.{eq-eqb, ne-eqb}
 use lib.ListN.{length}
-use Rattle.units.specs.Sums.{sumTo, sum-zero, sum-next, sum-grows, sum-same, sum-add, sum-none, sum-only}
+use Rattle.units.specs.Sums.{sumTo, sum-zero, sum-next, sum-grows, sum-none, sum-only}
 use Rattle.units.specs.Picked.{keep, keep-none, same, sum-by-key-most}
 use Rattle.rows.specs.Rows.{rows}
 use Rattle.tally.specs.declared.Tally.{Tally}
-use Rattle.tally.specs.Tallies.{plus, tallyAt, added, onlyFor, counted, inAll, turnsInAll, boughtInAll, soldInAll, Countable}
+use Rattle.tally.specs.Tallies.{onlyFor, counted, boughtInAll, soldInAll, Countable}
 use Rattle.tally.specs.TallyLaws.{added-length, added-same, added-none, added-twice, only-own, only-other, in-all-added, in-all-has}
 use Rattle.session.specs.Credit.{rowCredit, CanCredit, shareTo, creditedTo, credited, Creditable}
 

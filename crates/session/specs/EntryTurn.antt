@@ -1,6 +1,6 @@
 -- The turn of an entry: what it rests on, and its two cases.
 use mathlib.Core.Path.{_≡_}
-use mathlib.Core.Bool.{true, false}
+use mathlib.Core.Bool.{false}
 use mathlib.Core.List.{List}
 use Prim.{⊥}
 use Prim.Native.Nat.{ℕ, _*_, _<_}

@@ -1,6 +1,6 @@
 -- The turn of a new order: what it rests on, and its three cases as the code meets them.
-use mathlib.Core.Path.{_≡_, refl, sym, ap, _∙_, subst}
-use mathlib.Core.Bool.{true, false}
+use mathlib.Core.Path.{_≡_, sym, ap, _∙_, subst}
+use mathlib.Core.Bool.{true}
 use mathlib.Core.List.{List}
 use Prim.Native.Nat.{ℕ, _+_, _*_, _-_, _≤_, _<_, _^_}
 use native.Mathlib.Nat.{mul-le-mul-left}
@@ -15,19 +15,18 @@ use Rattle.entry.specs.declared.Quotes.{Quotes}
 use Rattle.entry.specs.Numbers.{largest, lastNumber}
 use Rattle.entry.specs.Entry.{newOrder}
 use Rattle.entry.specs.Quotes.{quotesOf}
-use Rattle.entry.specs.EntryLaws.{Proper}
 use Rattle.checks.specs.declared.Standing.{Standing}
 use Rattle.judge.specs.declared.Judged.{Judged}
-use Rattle.judge.specs.declared.Judged.the-variants.{TurnedDown, Rests, Trades}
+use Rattle.judge.specs.declared.Judged.the-variants.{Rests, Trades}
 use Rattle.judge.specs.Verdict.{verdict}
 use Rattle.judge.specs.VerdictLaws.{Taken, Ruled, ruled, taken-proper}
-use Rattle.tally.specs.Tallies.{turnsInAll, boughtInAll, soldInAll}
+use Rattle.tally.specs.Tallies.{boughtInAll, soldInAll}
 use Rattle.session.specs.declared.Session.{Session}
-use Rattle.session.specs.Market.{Market, marketOf}
+use Rattle.session.specs.Market.{marketOf}
 use Rattle.session.specs.Resting.{restingOn}
 use Rattle.session.specs.Settle.{Settles}
 use Rattle.session.specs.Sound.{Ready}
-use Rattle.session.specs.Turn.{TurnDone, quotesIn, standingOf, turnedDown, byVerdict, orderTurn, mostTurns}
+use Rattle.session.specs.Turn.{quotesIn, standingOf, byVerdict, orderTurn}
 use Rattle.session.specs.TradeTurn.{CanTrade}
 
 pub record CanOrder (s : Session) (t : ℕ) (e : Entry) (b : Book) (was : List ℕ) : Type 0 where

@@ -5,7 +5,6 @@ use Prim.Native.Nat.{ℕ}
 use lib.Dec.{ltb}
 use lib.ListN.{replicate}
 use Rattle.units.specs.declared.Cents.{Cents}
-use Rattle.units.specs.declared.grid.Grid.{Grid}
 use Rattle.units.specs.declared.grid.Chosen.{Chosen}
 use Rattle.units.specs.declared.grid.Chosen.the-variants.{One, NoSuch}
 use Rattle.units.specs.Units.{cents}

@@ -1,14 +1,13 @@
 -- Laws of settling.
 use mathlib.Core.Path.{_≡_, refl, sym, ap, _∙_}
 use mathlib.Core.Logic.{_⊎_, ⊎-elim, _≢_}
-use mathlib.Core.Bool.{Bool, true, false}
+use mathlib.Core.Bool.{true, false}
 use mathlib.Core.List.{List}
-use Prim.Native.Nat.{ℕ, _+_, _≤_, _<_, _^_}
+use Prim.Native.Nat.{ℕ, _≤_, _<_}
 use native.Mathlib.Nat.{add-zero, zero-add}
 use native.Mathlib.Omega.{arith}
 use lib.Dec.{eqb}
-use borrow.Author.Tests.{eq-eqb, ne-eqb, eqb-true}
-use lib.ListN.{length}
+use borrow.Author.Tests.{ne-eqb, eqb-true}
 use Rattle.units.specs.Units.{contracts}
 use Rattle.units.specs.Tests.{pick, order, less, equal, more}
 use Rattle.units.specs.Sums.{sumTo, sum-same, sum-none, sum-most}
@@ -16,16 +15,15 @@ use Rattle.units.specs.Picked.{keep, keep-none, keep-most, same, same-in, same-
 use Rattle.units.specs.Places.{at, table, table-at}
 use Rattle.rows.specs.Rows.{rows}
 use Rattle.book.specs.Book.{Book, sideAt, sizeAt, ownerAt}
-use Rattle.book.specs.Sound.{SoundRow, SoundBook}
+use Rattle.book.specs.Sound.{SoundRow}
 use Rattle.book.specs.Trading.{ofTenant, filled, traded, tradeRecords}
 use Rattle.book.specs.Answers.{tradedOf}
 use Rattle.book.specs.declared.trading.Traded.{Traded}
 use Rattle.book.specs.TradingLaws.{traded-side, traded-most}
 use Rattle.entry.specs.declared.Entry.{Entry}
 use Rattle.entry.specs.Entry.{isBuy, isSell}
-use Rattle.entry.specs.EntryLaws.{Proper}
 use Rattle.tally.specs.declared.Tally.{Tally}
-use Rattle.tally.specs.Tallies.{added, onlyFor, inAll, turnsInAll, boughtInAll, soldInAll}
+use Rattle.tally.specs.Tallies.{onlyFor}
 use Rattle.tally.specs.TallyLaws.{added-length, added-same, added-twice, in-all-added}
 use Rattle.session.specs.Opposite.{opposite}
 use Rattle.session.specs.Resting.{restingOn}

@@ -8,7 +8,6 @@ use Rattle.rows.specs.Rows.{highest}
 use Rattle.book.specs.Book.{Book}
 use Rattle.book.specs.Sound.{SoundBook, Uncrossed}
 use Rattle.entry.specs.declared.Terms.{Terms}
-use Rattle.entry.specs.declared.Away.{Away}
 use Rattle.entry.specs.Numbers.{largest, lastNumber}
 use Rattle.entry.specs.Entry.{malformed}
 use Rattle.lanes.specs.declared.Lanes.{Lanes}

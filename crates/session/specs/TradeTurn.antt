@@ -1,20 +1,19 @@
 -- The turn of an order that trades, step by step as the code has it.
-use mathlib.Core.Path.{_≡_, refl, sym, ap, _∙_}
+use mathlib.Core.Path.{_≡_, ap, _∙_}
 use mathlib.Core.List.{List}
-use Prim.Native.Nat.{ℕ, _+_, _-_, _≤_, _<_}
+use Prim.Native.Nat.{ℕ, _+_, _-_, _≤_}
 use native.Mathlib.Omega.{arith}
 use lib.Dec.{eqb}
 use lib.ListN.{length}
 use borrow.Author.Tests.{eq-eqb, ne-eqb}
 use Rattle.units.specs.declared.Cents.{Cents}
-use Rattle.units.specs.declared.Contracts.{Contracts}
 use Rattle.units.specs.Units.{contracts}
 use Rattle.units.specs.Tests.{pick}
 use Rattle.units.specs.Places.{table-length}
 use Rattle.rows.specs.Rows.{rows}
 use Rattle.book.specs.Book.{Book, bookOf, rested}
 use Rattle.book.specs.Fit.{Whole}
-use Rattle.book.specs.Trading.{filled, afterTrade, tradeRecords, tradeWritten}
+use Rattle.book.specs.Trading.{filled, afterTrade, tradeWritten}
 use Rattle.entry.specs.declared.Entry.{Entry}
 use Rattle.entry.specs.declared.Quotes.{Quotes}
 use Rattle.entry.specs.Numbers.{lastNumber}
@@ -25,8 +24,8 @@ use Rattle.session.specs.declared.settle.Settled.{Settled}
 use Rattle.session.specs.declared.TurnAnswer.the-variants as answer
 use Rattle.session.specs.Market.{Market, marketOf}
 use Rattle.session.specs.Opposite.{opposite}
-use Rattle.session.specs.Settle.{Settles, talliesAfter, settledOf}
-use Rattle.session.specs.Turn.{TurnDone, quotesIn, numbered, filledOf, dispositionIn, bookAfter, tradeTurn}
+use Rattle.session.specs.Settle.{Settles, settledOf}
+use Rattle.session.specs.Turn.{quotesIn, numbered, filledOf, dispositionIn, bookAfter, tradeTurn}
 
 -- the book once what is left of an order is disposed of
 abbrev pub disposed : ℕ → Entry → ℕ → ℕ → ℕ → Book → Book

@@ -1,9 +1,8 @@
 -- The cases of a turn, as the code meets them.
-use mathlib.Core.Path.{_≡_, refl, sym, _∙_, ap}
-use mathlib.Core.Bool.{Bool, true, false}
+use mathlib.Core.Path.{_≡_, sym, _∙_}
+use mathlib.Core.Bool.{true, false}
 use mathlib.Core.List.{List}
 use Prim.Native.Nat.{ℕ, _+_, _≤_, _<_}
-use native.Mathlib.Omega.{arith}
 use borrow.Author.Tests.{lt-ltb, le-ltb, le-leb, lt-leb}
 use Rattle.units.specs.Tests.{isNot, pick}
 use Rattle.units.specs.Units.{contracts}
@@ -18,10 +17,9 @@ use Rattle.lanes.specs.Rotation.{served}
 use Rattle.tally.specs.declared.Tally.{Tally}
 use Rattle.tally.specs.Tallies.{counted, turnsInAll}
 use Rattle.session.specs.declared.Session.{Session}
-use Rattle.session.specs.declared.Turned.{Turned}
 use Rattle.session.specs.declared.TurnAnswer.the-variants as answer
 use Rattle.session.specs.Market.{Market, marketOf}
-use Rattle.session.specs.Turn.{TurnDone, mostTurns, turnRefusal, numbered, afterTaking, turnDone, turnedDown, cancelTurn, restTurn}
+use Rattle.session.specs.Turn.{mostTurns, turnRefusal, numbered, afterTaking, turnedDown, cancelTurn, restTurn}
 
 -- which number is given, by what each test says
 module _ (s : Session) (lent : ℕ) where

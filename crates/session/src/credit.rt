@@ -6,7 +6,6 @@ use tally::Tally;
 use tally::count;
 ghost use mathlib.Core.Path.{_≡_};
 ghost use Rattle.units.specs.Places.{at};
-ghost use Rattle.tally.specs.Tallies.{added};
 ghost use Rattle.session.specs.Credit.{rowCredit, CanCredit, credited, Creditable};
 
 // One row's contracts, bought if it is a buy and else sold, for its owner.

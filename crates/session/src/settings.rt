@@ -13,9 +13,9 @@ use units::Cents;
 use units::grid::Chosen;
 use units::grid::Grid;
 ghost use mathlib.Core.Path.{_≡_};
-ghost use Rattle.book.specs.Book.{Book, bookOf};
+ghost use Rattle.book.specs.Book.{bookOf};
 ghost use Rattle.session.specs.Market.{marketOf, answeredOf};
-ghost use Rattle.session.specs.Settings.{startedOn, noTerms, settingsOf};
+ghost use Rattle.session.specs.Settings.{startedOn, settingsOf};
 
 // A session on new terms: nothing rests, waits or is counted, the rotation is at tenant 0 and the series unopened.
 pub fn started(accepted: bool, terms: Terms) -> Session

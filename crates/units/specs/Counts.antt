@@ -1,9 +1,9 @@
 -- How many of the first n places pass a test.
 use mathlib.Core.Path.{_≡_, refl, sym, _∙_}
 use mathlib.Core.Bool.{Bool, true, false}
-use Prim.Native.Nat.{ℕ, _+_, _*_, _≤_, _<_}
+use Prim.Native.Nat.{ℕ, _≤_, _<_}
 use native.Mathlib.Omega.{arith}
-use Rattle.units.specs.Sums.{sumTo, sum-le, sum-same, sum-most, sum-none, sum-found, sum-less, sum-ones, sum-tight}
+use Rattle.units.specs.Sums.{sumTo, sum-le, sum-none, sum-found, sum-ones, sum-tight}
 use Rattle.units.specs.Picked.{keep, keep-most}
 
 abbrev pub countTo : (ℕ → Bool) → ℕ → ℕ

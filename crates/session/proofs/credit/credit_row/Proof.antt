@@ -1,6 +1,5 @@
 -- `session::credit::credit_row` meets its contract, by whether the row traded and on which side.
 use native.Mathlib.Omega.{arith}
-use borrow.Author.Needs.{needs}
 use mathlib.Core.Path.{_∙_}
 use Rattle.session.specs.CreditLaws.{row-none, row-bought, row-sold, can-buy, can-sell}
 use Rattle.session.proofs.credit.credit_row.Statement.{statement}

@@ -1,7 +1,6 @@
 -- `session::submit::some_malformed` meets its contract: no entry passed is malformed.
 use mathlib.Core.Path.{sym, _∙_, ap}
 use Prim.Native.Nat.{_-_}
-use native.Mathlib.Omega.{arith}
 use borrow.Author.Needs.{needs}
 use Rattle.units.specs.Loops.{Sought, seek-starts, seek-goes-on}
 use Rattle.entry.specs.Entry.{malformed}

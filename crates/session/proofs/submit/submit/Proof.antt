@@ -3,7 +3,7 @@ use mathlib.Core.Path.{sym, _∙_}
 use native.Mathlib.Omega.{arith}
 use borrow.Author.Needs.{needs}
 use Rattle.session.specs.Market.{marketOf}
-use Rattle.session.specs.SubmitLaws.{Joins, joins, submit-refused, submit-accepted}
+use Rattle.session.specs.SubmitLaws.{joins, submit-refused, submit-accepted}
 use Rattle.session.proofs.submit.submit.Statement.{statement}
 use Rattle.session.proofs.submit.submit.Tie as tie
 
