@@ -18,6 +18,7 @@ pub mod SameRecords
 pub mod TradingLaws
 pub mod Answers
 pub mod OpeningLaws
+pub mod SweptLaws
 pub mod SoundLaws
 pub mod RestLaws
 pub mod RecordSums

@@ -7,6 +7,7 @@ use native.Mathlib.Omega.{arith}
 use borrow.Author.Tests.{eq-eqb, ne-eqb, lt-ltb, le-leb}
 use Rattle.units.specs.Tests.{order, less, equal, more}
 use Rattle.units.specs.Sums.{sumTo, sum-has}
+use Rattle.units.specs.Picked.{same, same-in, same-out}
 use Rattle.units.specs.Places.{table-at}
 use Rattle.units.specs.Leasts.{least-most, greatest-has}
 use Rattle.rows.specs.Rows.{noPrice, within, openSize, buyPrice, sellPrice}
@@ -22,11 +23,11 @@ use Rattle.book.specs.Opening.{volume, bought, sold, matched, afterFills
 -- ---- one row
 
 -- a buy at p or more, a sell at p or less
-open-buy : (p side price size : ℕ) → side ≡ 1 → p ≤ price → openSize 1 p side price size ≡ size
+pub open-buy : (p side price size : ℕ) → side ≡ 1 → p ≤ price → openSize 1 p side price size ≡ size
 unfolding openSize within
 open-buy p side price size e h = simp (eq-eqb side 1 e, le-leb p price h)
 
-open-sell : (p side price size : ℕ) → side ≡ 2 → price ≤ p → openSize 2 p side price size ≡ size
+pub open-sell : (p side price size : ℕ) → side ≡ 2 → price ≤ p → openSize 2 p side price size ≡ size
 unfolding openSize within
 open-sell p side price size e h = simp (eq-eqb side 2 e, le-leb price p h)
 
@@ -90,6 +91,21 @@ module _ (b : Book) (p : ℕ) where
     | less x ↦ absurd (h (open-side 2 p (sideAt b i) (priceAt b i) (sizeAt b i) x))
     | equal x ↦ omega (arith, fill-most (reach b 2 p) (volume b p) time i)
     | more x ↦ omega arith
+  ]
+
+  -- what a buy matches is bought, what a sell matches is sold
+  pub matched-buy : (i : ℕ) → same (sideAt b) 1 (matched b p) i ≡ bought b p i
+  unfolding matched
+  matched-buy i = elim (ℕ-discrete (sideAt b i) 1) [
+    | yes e ↦ omega (arith, same-in (sideAt b) 1 (matched b p) i e, sold-other i (omega arith))
+    | no e ↦ omega (arith, same-out (sideAt b) 1 (matched b p) i e, bought-other i e)
+  ]
+
+  pub matched-sell : (i : ℕ) → same (sideAt b) 2 (matched b p) i ≡ sold b p i
+  unfolding matched
+  matched-sell i = elim (ℕ-discrete (sideAt b i) 2) [
+    | yes e ↦ omega (arith, same-in (sideAt b) 2 (matched b p) i e, bought-other i (omega arith))
+    | no e ↦ omega (arith, same-out (sideAt b) 2 (matched b p) i e, sold-other i e)
   ]
 
   bought-open : (i : ℕ) → bought b p i ≤ openSize 1 p (sideAt b i) (priceAt b i) (sizeAt b i)

@@ -3,7 +3,6 @@ use mathlib.Core.Path.{_≡_, refl, sym, _∙_}
 use mathlib.Core.List.{List}
 use mathlib.Core.Logic.{_≢_}
 use Prim.Native.Nat.{ℕ, _+_, _-_, _≤_, _<_}
-use native.Mathlib.Decide.{ℕ-discrete}
 use native.Mathlib.Omega.{arith}
 use lib.Dec.{eqb}
 use lib.ListN.{set}
@@ -18,7 +17,7 @@ use Rattle.book.specs.AllocationLaws.{Distinct}
 use Rattle.book.specs.Trading.{reach, filled, traded, afterTrade}
 use Rattle.book.specs.TradingLaws.{traded-most, traded-side, all-traded}
 use Rattle.book.specs.Opening.{volume, matched, afterFills, afterOpening}
-use Rattle.book.specs.OpeningLaws.{bought-other, sold-other, matched-most, opening-left, all-bought, all-sold}
+use Rattle.book.specs.OpeningLaws.{matched-buy, matched-sell, matched-most, opening-left, all-bought, all-sold}
 use Rattle.book.specs.Sound.{SoundBook}
 use Rattle.book.specs.SoundLaws.{free-less}
 use Rattle.book.specs.RestLaws.{free-is}
@@ -77,20 +76,11 @@ module _ (b : Book) (p : ℕ) (apart : (i j : ℕ) → i < b .places → j < b .
   unfolding afterFills
   fills-give = gives b (table (λ i. sizeAt b i - matched b p i) (b .places)) (matched b p) (λ i h. table-at _ (b .places) i h) (matched-most b p)
 
-  -- what buys match is bought, what sells match is sold
   matched-buys : sumTo (same (sideAt b) 1 (matched b p)) (b .places) ≡ volume b p
-  unfolding matched
-  matched-buys = sum-same (b .places) (λ i _. elim (ℕ-discrete (sideAt b i) 1) [
-    | yes e ↦ omega (arith, same-in (sideAt b) 1 (matched b p) i e, sold-other b p i (omega arith))
-    | no e ↦ omega (arith, same-out (sideAt b) 1 (matched b p) i e, bought-other b p i e)
-  ]) ∙ all-bought b p apart
+  matched-buys = sum-same (b .places) (λ i _. matched-buy b p i) ∙ all-bought b p apart
 
   matched-sells : sumTo (same (sideAt b) 2 (matched b p)) (b .places) ≡ volume b p
-  unfolding matched
-  matched-sells = sum-same (b .places) (λ i _. elim (ℕ-discrete (sideAt b i) 2) [
-    | yes e ↦ omega (arith, same-in (sideAt b) 2 (matched b p) i e, bought-other b p i (omega arith))
-    | no e ↦ omega (arith, same-out (sideAt b) 2 (matched b p) i e, sold-other b p i e)
-  ]) ∙ all-sold b p apart
+  matched-sells = sum-same (b .places) (λ i _. matched-sell b p i) ∙ all-sold b p apart
 
   -- the fills of an opening take the volume from each side,
   pub fills-buys : onSide (afterFills b p) 1 + volume b p ≡ onSide b 1

@@ -1,24 +1,28 @@
--- What keeps a book sound: trading, cancelling and opening take from rows, resting fills a free one; and a sound book is fit for a match.
+-- What keeps a book sound: an empty one is, trading, cancelling and opening take from rows, resting fills a free one; and a sound book is fit for a
+-- match.
 use mathlib.Core.Path.{_≡_, sym, _∙_}
+use mathlib.Core.Bool.{false}
 use mathlib.Core.List.{List}
 use mathlib.Core.Logic.{_≢_}
 use Prim.Native.Nat.{ℕ, _-_, _≤_, _<_}
 use native.Mathlib.Decide.{ℕ-discrete}
 use native.Mathlib.Omega.{arith}
-use lib.ListN.{length, set, length-set}
+use lib.ListN.{length, set, length-set, length-replicate, getD-replicate}
 use lib.Seq.{getD-set-same, getD-set-other}
-use borrow.Author.Tests.{lt-ltb, le-ltb, eq-eqb, ne-eqb}
+use borrow.Author.Tests.{lt-ltb, le-ltb, eq-eqb, ne-eqb, leb-false}
 use Rattle.units.specs.Tests.{order, less, equal, more}
-use Rattle.units.specs.Sums.{sum-most}
+use Rattle.units.specs.Sums.{sum-most, sum-none}
 use Rattle.units.specs.Picked.{keep}
 use Rattle.units.specs.Places.{at, table, table-at, table-length}
 use Rattle.rows.specs.Rows.{rows, restsFor}
 use Rattle.rows.specs.Passes.{restingRows}
 use Rattle.levels.specs.Levels.{noNumber}
-use Rattle.book.specs.Book.{Book, sizeAt, ownerAt, restingOf, withSizes, freed}
-use Rattle.book.specs.Trading.{afterTrade, traded}
+use Rattle.book.specs.Book.{Book, emptyBook, sizeAt, ownerAt, bestBid, bestSell, crosses, restingOf, withSizes, freed}
+use Rattle.book.specs.AllocationLaws.{Distinct}
+use Rattle.book.specs.Trading.{reach, afterTrade, traded}
+use Rattle.book.specs.TradingLaws.{reach-apart}
 use Rattle.book.specs.Opening.{afterOpening}
-use Rattle.book.specs.OpeningLaws.{opening-most, never-locked-or-crossed}
+use Rattle.book.specs.OpeningLaws.{buy-most, sell-least, opening-most, never-locked-or-crossed}
 use Rattle.book.specs.Sound.{SoundBook, Uncrossed}
 use Rattle.book.specs.Fit.{Whole, Fit}
 
@@ -41,6 +45,10 @@ sound-fit s h = record {
   numbered = λ i p x. omega (arith, s .row i p x .number-most);
   apart = s .apart;
 }
+
+-- live numbers are distinct, so those of the rows that an order may trade with are
+pub sound-apart : {b : Book} {next : ℕ} → SoundBook b next → (side bound : ℕ) → Distinct (reach b side bound)
+sound-apart {b} s side bound = reach-apart b side bound (λ i j p q. s .apart i j (omega (arith, s .places)) (omega (arith, s .places)))
 
 -- ---- rows that a tenant has resting
 
@@ -75,6 +83,32 @@ rests-less t owner small large h = elim (order 0 small) [
 pub resting-shrinks : (b : Book) (l : List ℕ) → ((i : ℕ) → i < b .places → at l i ≤ sizeAt b i) → (t : ℕ) → restingOf (withSizes b l) t ≤ restingOf b t
 unfolding restingRows
 resting-shrinks b l h t = sum-most (b .places) (λ i p. rests-less t (ownerAt b i) (at l i) (sizeAt b i) (h i p))
+
+-- ---- an empty book
+
+-- no row of an empty book rests
+pub empty-size : (n i : ℕ) → i < n → sizeAt (emptyBook n) i ≡ 0
+empty-size n i p = getD-replicate n i 0 0 p
+
+-- so it is sound, whatever the next number is
+module _ (n next : ℕ) (all : n ≡ rows) where
+  none-rests : (i : ℕ) → i < rows → 0 < sizeAt (emptyBook n) i → ⊥
+  none-rests i p x = omega (arith, empty-size n i (omega arith))
+
+  pub empty-sound : SoundBook (emptyBook n) next
+  unfolding restingRows
+  empty-sound = record {
+    places = all;
+    sides-long = length-replicate n 0 ∙ all;
+    prices-long = length-replicate n 0 ∙ all;
+    sizes-long = length-replicate n 0 ∙ all;
+    owners-long = length-replicate n 0 ∙ all;
+    numbers-long = length-replicate n 0 ∙ all;
+    size-most = λ i p. omega (arith, empty-size n i (omega arith));
+    row = λ i p x. absurd (none-rests i p x);
+    apart = λ i j p q x y e. absurd (none-rests i p x);
+    room = λ t h. omega (arith, sum-none n (λ i p. rests-free t (ownerAt (emptyBook n) i) (sizeAt (emptyBook n) i) (empty-size n i p)));
+  }
 
 -- ---- what takes from rows keeps a book sound
 
@@ -147,9 +181,11 @@ module _ {b : Book} {next : ℕ} (s : SoundBook b next) where
     unfolding freed
     free-uncrossed = shrunk-uncrossed s (set (b .sizes) row 0) (length-set (b .sizes) row 0 ∙ s .sizes-long) free-less
 
-    pub free-resting : (t : ℕ) → restingOf (freed b row) t ≤ restingOf b t
-    unfolding freed
-    free-resting = resting-shrinks b (set (b .sizes) row 0) (λ i p. free-less i (omega (arith, s .places)))
+  -- where no resting buy is at or above a resting sell, the book is uncrossed
+  pub quiet-uncrossed : crosses b ≡ false → Uncrossed b
+  unfolding crosses
+  quiet-uncrossed h i j p p′ x y e e′ =
+      omega (arith, leb-false (bestSell b) (bestBid b) h, buy-most b i (within-places p) x e, sell-least b j (within-places p′) y e′)
 
   module _ (p : ℕ) where
     -- so does an opening, after which the book is never locked or crossed, whatever the price
@@ -160,10 +196,6 @@ module _ {b : Book} {next : ℕ} (s : SoundBook b next) where
     pub opening-uncrossed : Uncrossed (afterOpening b p)
     unfolding afterOpening
     opening-uncrossed i j h h′ = never-locked-or-crossed b p i j (within-places h) (within-places h′)
-
-    pub opening-resting : (t : ℕ) → restingOf (afterOpening b p) t ≤ restingOf b t
-    unfolding afterOpening
-    opening-resting = resting-shrinks b (afterOpening b p .sizes) (opening-most b p)
 
   -- soundness is kept as numbers are given
   pub later-sound : (later : ℕ) → next ≤ later → SoundBook b later

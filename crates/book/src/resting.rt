@@ -1,4 +1,4 @@
-// What rests: an empty book, an order that takes the first free row, a cancel that frees its row.
+// What rests: an order takes the first free row, a cancel frees its row.
 use rows::Column;
 use rows::ROWS;
 use rows::passes::free_row;
@@ -9,25 +9,8 @@ ghost use mathlib.Core.List.{List};
 ghost use Prim.Native.Nat.{ℕ};
 ghost use lib.ListN.{length};
 ghost use Rattle.rows.specs.Rows.{rows};
-ghost use Rattle.book.specs.Book.{bookOf, emptyBook, rested, freed};
+ghost use Rattle.book.specs.Book.{bookOf, rested, freed};
 ghost use Rattle.book.specs.Fit.{Whole};
-
-// Accepted settings empty the book.
-pub fn clear(
-    sides: &mut Column,
-    prices: &mut Column,
-    sizes: &mut Column,
-    owners: &mut Column,
-    numbers: &mut Column,
-)
-    ensures { λ _. ⌜ bookOf (now (sides .exit)) (now (prices .exit)) (now (sizes .exit)) (now (owners .exit)) (now (numbers .exit)) ≡ emptyBook rows ⌝ }
-{
-    *sides = [0u32; 216];
-    *prices = [0u32; 216];
-    *sizes = [0u32; 216];
-    *owners = [0u32; 216];
-    *numbers = [0u32; 216];
-}
 
 // An order rests in the first free row; a full book stays as it is.
 pub fn rest(

@@ -7,12 +7,11 @@ use native.Mathlib.Omega.{arith}
 use borrow.Author.Tests.{lt-ltb, le-ltb}
 use Rattle.units.specs.Tests.{pick-yes, pick-no, holds-not-fails, order, less, equal, more}
 use Rattle.units.specs.Firsts.{first-holds, first-before, first-least}
-use Rattle.lanes.specs.declared.Lanes.{Lanes}
 use Rattle.lanes.specs.declared.Served.{Served}
 use Rattle.lanes.specs.declared.Served.the-variants.{Lane, Nobody}
-use Rattle.lanes.specs.Ring.{tenants, taken}
+use Rattle.lanes.specs.Ring.{tenants}
 use Rattle.lanes.specs.Rotation.{on, distance, servedBy, served}
-use Rattle.lanes.specs.Runs.{ahead, FirstBusy, moved}
+use Rattle.lanes.specs.Runs.{ahead, FirstBusy}
 
 -- round the lanes and back
 pub on-ahead : (p t : ℕ) → p < tenants → t < tenants → on p (ahead p t) ≡ t
@@ -88,8 +87,3 @@ module _ (busy : ℕ → Bool) (p : ℕ) where
         go : (s : Served) → Serves s → ((t : ℕ) → t < tenants → busy t ≡ false) → s ≡ Nobody
         go (Lane u) r h = absurd (holds-not-fails (r .waits) (h u (r .lane)))
         go Nobody r h = refl
-
--- a taken turn moves the place as a run of turns has it
-pub taken-moves : (l : Lanes) (t : ℕ) → served l ≡ Lane t → taken l t .place ≡ moved (l .place) (served l)
-unfolding taken
-taken-moves l t e = rw e

@@ -8,7 +8,7 @@ use native.Mathlib.Omega.{arith}
 use lib.ListN.{length}
 use lib.Seq.{getD-set-same, getD-set-other}
 use Rattle.units.specs.Tests.{order, less, equal, more}
-use Rattle.units.specs.Listed.{listed, listed-length, listed-same, listed-add, listed-first}
+use Rattle.units.specs.Listed.{listed, listed-same, listed-add, listed-first}
 use Rattle.entry.specs.declared.Entry.{Entry}
 use Rattle.lanes.specs.declared.Lanes.{Lanes}
 use Rattle.lanes.specs.Ring.{tenants, depth, allEntries, entryAt, headOf, lenOf, slot, waitingAt, putAll, joined, taken}
@@ -25,11 +25,6 @@ givenIn ns count = listed (entryAt ns) count
 -- what holds of every entry that waits
 abbrev pub EachWaiting : (Entry → Type 0) → Lanes → List ℕ → Type 0
 EachWaiting P l entries = (t i : ℕ) → t < tenants → i < lenOf l t → P (waitingAt l entries t i)
-
--- as many wait as the lane's mark says
-pub waiting-length : (l : Lanes) (entries : List ℕ) (t : ℕ) → length (waiting l entries t) ≡ lenOf l t
-unfolding waiting
-waiting-length l entries t = listed-length (waitingAt l entries t) (lenOf l t)
 
 -- a bulk of n entries put into lane t, behind those waiting
 module _ (l : Lanes) (entries : List ℕ) (t : ℕ) (ns : List ℕ) (n : ℕ) where

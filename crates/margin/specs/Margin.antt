@@ -8,3 +8,8 @@ use Rattle.units.specs.Picked.{lower}
 pub record AtMargin (n : ℕ) (key size : ℕ → ℕ) (q m left : ℕ) : Type 0 where
   pub reaches : left + sumTo (lower key m size) n ≡ q
   pub short : (i : ℕ) → i < n → 0 < size i → m ≤ key i → q < sumTo (lower key (suc m) size) n
+
+-- The one margin of an order: where it fills all there is, the margin is `top`, which is past every key.
+pub record MarginAt (n top : ℕ) (key size : ℕ → ℕ) (q m left : ℕ) : Type 0 where
+  pub at-margin : AtMargin n key size q m left
+  pub past : sumTo size n ≤ q → m ≡ top

@@ -1,16 +1,26 @@
 -- The search for the margin, key by key.
-use mathlib.Core.Path.{_≡_, sym}
-use Prim.Native.Nat.{ℕ, _+_, _-_, _≤_, _<_}
+use mathlib.Core.Path.{_≡_, refl, sym, _∙_}
+use Prim.Native.Nat.{ℕ, suc, _+_, _-_, _≤_, _<_}
 use native.Mathlib.Numerals.{add-one}
 use native.Mathlib.Decide.{decLt}
 use native.Mathlib.Omega.{arith}
 use Rattle.units.specs.Tests.{order, less, equal, more}
-use Rattle.units.specs.Sums.{sumTo, sum-same, sum-none}
-use Rattle.units.specs.Picked.{same, lower, lower-in, lower-out, sum-lower-next}
+use Rattle.units.specs.Sums.{sumTo, sum-same, sum-most, sum-none, sum-add, sum-found}
+use Rattle.units.specs.Picked.{same, lower, lower-in, lower-out, lower-grows, sum-lower-next}
 use Rattle.units.specs.Leasts.{least-top, least-most, least-floor}
 use Rattle.levels.specs.Levels.{candidate, bestFrom}
 use Rattle.levels.specs.LevelLaws.{candidate-free, candidate-low, candidate-is}
-use Rattle.margin.specs.Margin.{AtMargin}
+use Rattle.margin.specs.Margin.{AtMargin, MarginAt}
+
+-- what stands below a key is no more than there is
+lower-most : (key : ℕ → ℕ) (c : ℕ) (size : ℕ → ℕ) (i : ℕ) → lower key c size i ≤ size i
+lower-most key c size i = elim (decLt (key i) c) [
+  | yes h ↦ omega (arith, lower-in key c size i h)
+  | no h ↦ omega (arith, lower-out key c size i (omega arith))
+]
+
+lower-all : (key : ℕ → ℕ) (c : ℕ) (size : ℕ → ℕ) (n : ℕ) → sumTo (lower key c size) n ≤ sumTo size n
+lower-all key c size n = sum-most n (λ i _. lower-most key c size i)
 
 module _ (n top : ℕ) (key size : ℕ → ℕ) (floor : ℕ) where
   best-top : bestFrom n top key size floor ≤ top
@@ -70,8 +80,11 @@ module _ (n top : ℕ) (key size : ℕ → ℕ) (q left floor k total : ℕ) (lo
   best-bounds = omega (arith, best-floor n top key size floor (omega arith), best-top n top key size floor)
 
   -- it holds more than is left: the margin
-  pub margin-found : left < total → AtMargin n key size q k left
-  margin-found h = record { reaches = at-best; short = λ i p x m. omega (arith, at-best, sum-lower-next key k size n) }
+  pub margin-found : left < total → MarginAt n top key size q k left
+  margin-found h = record {
+    at-margin = record { reaches = at-best; short = λ i p x m. omega (arith, at-best, sum-lower-next key k size n) };
+    past = λ all. absurd (omega (arith, at-best, sum-lower-next key k size n, lower-all key (suc k) size n));
+  }
 
   -- it is filled whole: on from the next key
   pub reaching-goes-on : total ≤ left → Reaching n key size q (left - total) (k + 1)
@@ -79,16 +92,46 @@ module _ (n top : ℕ) (key size : ℕ → ℕ) (q left floor k total : ℕ) (lo
 
 -- past every key nothing rests
 pub margin-past : (n top : ℕ) (key size : ℕ → ℕ) (q left floor : ℕ) → top ≤ floor → ((i : ℕ) → i < n → 0 < size i → key i < top)
-    → Reaching n key size q left floor → AtMargin n key size q floor left
-margin-past n top key size q left floor h keyed inv = record { reaches = inv; short = λ i p x m. omega (arith, keyed i p x) }
+    → Reaching n key size q left floor → MarginAt n top key size q top left
+margin-past n top key size q left floor h keyed inv =
+    let below : sumTo (lower key top size) n ≡ sumTo (lower key floor size) n = sum-same n λ i p. elim (order 0 (size i)) [
+      | less x ↦ (let l = keyed i p x in lower-in key top size i l ∙ sym (lower-in key floor size i (omega arith)))
+      | equal x ↦ omega (arith, lower-most key top size i, lower-most key floor size i)
+      | more x ↦ omega arith
+    ] in
+    record { at-margin = record { reaches = omega arith; short = λ i p x m. omega (arith, keyed i p x) }; past = λ all. refl }
 
 -- an order that fills all there is has its margin past every key
 pub margin-of-all : (n top : ℕ) (key size : ℕ → ℕ) (q all : ℕ) → ((i : ℕ) → i < n → 0 < size i → key i < top) → all ≡ sumTo size n → all ≤ q
-    → AtMargin n key size q top (q - all)
+    → MarginAt n top key size q top (q - all)
 margin-of-all n top key size q all keyed e h =
     let everyone : sumTo (lower key top size) n ≡ sumTo size n = sum-same n λ i p. elim (order 0 (size i)) [
       | less x ↦ lower-in key top size i (keyed i p x)
       | equal x ↦ elim (decLt (key i) top) [ yes l ↦ lower-in key top size i l | no l ↦ omega (arith, lower-out key top size i (omega arith)) ]
       | more x ↦ omega arith
     ] in
-    record { reaches = omega arith; short = λ i p x m. omega (arith, keyed i p x) }
+    record { at-margin = record { reaches = omega arith; short = λ i p x m. omega (arith, keyed i p x) }; past = λ full. refl }
+
+-- an order has one margin
+module _ (n top : ℕ) (key size : ℕ → ℕ) (q : ℕ) where
+  -- no margin is below another while something is left unfilled
+  not-below : (m left m′ left′ : ℕ) → AtMargin n key size q m left → AtMargin n key size q m′ left′ → q < sumTo size n → m < m′ → ⊥
+  not-below m left m′ left′ a b h l =
+      let beyond : ℕ → ℕ = λ i. size i - lower key m size i in
+      let split : sumTo size n ≡ sumTo (lower key m size) n + sumTo beyond n =
+      sum-add (lower key m size) beyond n (λ i p. omega (arith, lower-most key m size i)) in
+      let (i, p, x) = sum-found beyond n (omega (arith, a .reaches)) in
+      let far : m ≤ key i = elim (decLt (key i) m) [ yes k ↦ absurd (omega (arith, lower-in key m size i k)) | no k ↦ omega arith ] in
+      omega (arith, a .short i p (omega arith) far, sum-most n (λ j _. lower-grows key (suc m) m′ size j l), b .reaches)
+
+  pub margin-one : (m left m′ left′ : ℕ) → MarginAt n top key size q m left → MarginAt n top key size q m′ left′ → (m ≡ m′) × (left ≡ left′)
+  margin-one m left m′ left′ a b =
+      let same-key : m ≡ m′ = elim (decLt q (sumTo size n)) [
+        | yes h ↦ elim (order m m′) [
+          | less l ↦ absurd (not-below m left m′ left′ (a .at-margin) (b .at-margin) h l)
+          | equal l ↦ l
+          | more l ↦ absurd (not-below m′ left′ m left (b .at-margin) (a .at-margin) h l)
+        ]
+        | no h ↦ a .past (omega arith) ∙ sym (b .past (omega arith))
+      ] in
+      (same-key, omega (arith, a .at-margin .reaches, rw (← same-key) at (b .at-margin .reaches)))

@@ -8,10 +8,10 @@ use rows::row::wide;
 ghost use mathlib.Core.Path.{_≡_};
 ghost use Rattle.units.specs.Picked.{same};
 ghost use Rattle.units.specs.Places.{at};
-ghost use Rattle.rows.specs.Rows.{rows};
+ghost use Rattle.rows.specs.Rows.{rows, noPrice};
 ghost use Rattle.rows.specs.Passes.{standing};
-ghost use Rattle.levels.specs.Levels.{keysOn, opensOn};
-ghost use Rattle.margin.specs.Margin.{AtMargin};
+ghost use Rattle.levels.specs.Levels.{noNumber, keysOn, opensOn};
+ghost use Rattle.margin.specs.Margin.{MarginAt};
 ghost use Rattle.margin.specs.Ranges.{Priced, Numbered};
 
 // The first key whose rows hold more than what is left of the order there, and what is left.
@@ -29,7 +29,7 @@ const NO_NUMBER: u64 = 4294967296;
 // Price by price, best first, for as long as the price is filled whole.
 fn reached(side: u32, bound: u32, q: u32, sides: &Column, prices: &Column, sizes: &Column) -> Margin
     requires { ⌜ Priced (now prices) (now sizes) ⌝ }
-    ensures { λ r. ⌜ AtMargin rows (keysOn side (at (now (prices .entry)))) (opensOn side bound (at (now (sides .entry))) (at (now (prices .entry))) (at (now (sizes .entry)))) q (r .key) (r .left) ⌝ }
+    ensures { λ r. ⌜ MarginAt rows noPrice (keysOn side (at (now (prices .entry)))) (opensOn side bound (at (now (sides .entry))) (at (now (prices .entry))) (at (now (sizes .entry)))) q (r .key) (r .left) ⌝ }
 {
     let mut left: u32 = q;
     let mut floor: u64 = 0;
@@ -43,7 +43,7 @@ fn reached(side: u32, bound: u32, q: u32, sides: &Column, prices: &Column, sizes
         floor = k + 1;
     }
     Margin {
-        key: floor,
+        key: NO_KEY,
         left: left,
     }
 }
@@ -60,7 +60,7 @@ pub fn margin_of(
 ) -> Margin
     requires { ⌜ Priced (now prices) (now sizes) ⌝ }
     requires { ⌜ all ≡ standing rows (at (now sides)) (at (now prices)) (at (now sizes)) side bound ⌝ }
-    ensures { λ r. ⌜ AtMargin rows (keysOn side (at (now (prices .entry)))) (opensOn side bound (at (now (sides .entry))) (at (now (prices .entry))) (at (now (sizes .entry)))) q (r .key) (r .left) ⌝ }
+    ensures { λ r. ⌜ MarginAt rows noPrice (keysOn side (at (now (prices .entry)))) (opensOn side bound (at (now (sides .entry))) (at (now (prices .entry))) (at (now (sizes .entry)))) q (r .key) (r .left) ⌝ }
 {
     if all <= wide(q) {
         Margin {
@@ -83,7 +83,7 @@ pub fn in_line(
     numbers: &Column,
 ) -> Margin
     requires { ⌜ Numbered (now sizes) (now numbers) ⌝ }
-    ensures { λ r. ⌜ AtMargin rows (at (now (numbers .entry))) (same (keysOn side (at (now (prices .entry)))) (m .key) (opensOn side bound (at (now (sides .entry))) (at (now (prices .entry))) (at (now (sizes .entry))))) (m .left) (r .key) (r .left) ⌝ }
+    ensures { λ r. ⌜ MarginAt rows noNumber (at (now (numbers .entry))) (same (keysOn side (at (now (prices .entry)))) (m .key) (opensOn side bound (at (now (sides .entry))) (at (now (prices .entry))) (at (now (sizes .entry))))) (m .left) (r .key) (r .left) ⌝ }
 {
     let mut left: u32 = m.left;
     let mut floor: u64 = 0;
@@ -97,7 +97,7 @@ pub fn in_line(
         floor = n + 1;
     }
     Margin {
-        key: floor,
+        key: NO_NUMBER,
         left: left,
     }
 }

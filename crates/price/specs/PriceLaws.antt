@@ -1,9 +1,8 @@
 -- Which price is chosen: the first usable of the three; and none exactly where none of them is.
 use mathlib.Core.Path.{_≡_, refl}
-use mathlib.Core.Bool.{Bool, true, false, cond, _&&_, and-eq-true-iff}
+use mathlib.Core.Bool.{Bool, true, false, cond, and-eq-true-iff}
 use mathlib.Core.Logic.{_↔_}
-use Prim.Native.Nat.{ℕ, _+_, _/_, _≤_, _<_}
-use native.Mathlib.Omega.{arith}
+use Prim.Native.Nat.{ℕ, _<_}
 use lib.Dec.{ltb}
 use borrow.Author.Tests.{ltb-true}
 use Rattle.units.specs.Units.{cents}
@@ -18,15 +17,6 @@ pub record NoneUsable (s : Sources) : Type 0 where
   pub no-midpoint : usable (s .bid .0) (s .offer .0) (midpoint (s .bid .0) (s .offer .0)) ≡ false
   pub no-print : usable (s .bid .0) (s .offer .0) (s .print .0) ≡ false
   pub no-close : usable (s .bid .0) (s .offer .0) (s .close .0) ≡ false
-
--- the midpoint is at most what both quotes are at most
-midpoint-most : (bid offer most : ℕ) → bid ≤ most → offer ≤ most → midpoint bid offer ≤ most
-unfolding midpoint
-midpoint-most bid offer most b o = go (ltb 0 bid && ltb 0 offer)
-  where
-    go : (t : Bool) → cond t ((bid + offer) / 2) 0 ≤ most
-    go true = omega arith
-    go false = omega arith
 
 module _ (s : Sources) where
   abbrev middle : ℕ
@@ -83,13 +73,3 @@ module _ (s : Sources) where
   chosen-valid e =
       let both = and-eq-true-iff (ltb 0 (chosen (priceOf s))) (valid (s .bid .0) (s .offer .0) (chosen (priceOf s))) .0 (first-usable chosen-first e) in
       (ltb-true 0 _ (both .0), both .1)
-
-  -- it is at most what all four sources are at most
-  pub chosen-most : (most : ℕ) → s .bid .0 ≤ most → s .offer .0 ≤ most → s .print .0 ≤ most → s .close .0 ≤ most → chosen (priceOf s) ≤ most
-  chosen-most most b o p c = go chosen-first
-    where
-      go : {c : Choice} → First c → chosen c ≤ most
-      go (at-midpoint i) = omega (arith, midpoint-most (s .bid .0) (s .offer .0) most b o)
-      go (at-print i j) = p
-      go (at-close i j k) = c
-      go (nowhere n) = omega arith

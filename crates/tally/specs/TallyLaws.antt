@@ -6,12 +6,12 @@ use native.Mathlib.Nat.{add-assoc, add-zero, zero-add}
 use native.Mathlib.Decide.{ℕ-discrete}
 use native.Mathlib.Omega.{arith}
 use borrow.Author.Tests.{eq-eqb, ne-eqb}
-use lib.ListN.{length, set, length-set}
+use lib.ListN.{length, set, length-set, getD-replicate}
 use lib.Seq.{getD-set-same, getD-set-other, ext-getD}
-use Rattle.units.specs.Sums.{sumTo, sum-add, sum-has}
+use Rattle.units.specs.Sums.{sumTo, sum-add, sum-has, sum-none}
 use Rattle.tally.specs.declared.Tally.{Tally}
 use Rattle.tally.specs.Tallies as tallies
-use Rattle.tally.specs.Tallies.{plus, tallyAt, addedFrom, added, onlyFor, counted, inAll}
+use Rattle.tally.specs.Tallies.{plus, tallyAt, noTallies, addedFrom, added, onlyFor, counted, inAll}
 
 module _ (turns bought sold : ℕ → ℕ) where
   pub added-length : (t : ℕ) (xs : List Tally) → length (addedFrom t turns bought sold xs) ≡ length xs
@@ -113,3 +113,7 @@ in-all-added field turns bought sold d xs l h =
 -- no tenant has done more than all
 pub in-all-has : (field : Tally → ℕ) (xs : List Tally) (u : ℕ) → u < 9 → field (tallyAt xs u) ≤ inAll field xs
 in-all-has field xs u h = sum-has (λ t. field (tallyAt xs t)) 9 u h
+
+-- no tenant has done anything
+pub in-all-none : (field : Tally → ℕ) → field tallies.zero ≡ 0 → inAll field noTallies ≡ 0
+in-all-none field h = sum-none 9 (λ t p. ap field (getD-replicate 9 t tallies.zero tallies.zero p) ∙ h)

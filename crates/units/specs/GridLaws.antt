@@ -1,20 +1,37 @@
--- A price is on a grid exactly where its step divides it; and E4 of the paper.
-use mathlib.Core.Path.{_≡_, refl}
-use mathlib.Core.Bool.{true, false}
+-- A price is on a grid exactly where its step divides it; the lowest step is a price; and E4 of the paper.
+use mathlib.Core.Path.{_≡_, refl, subst}
+use mathlib.Core.Bool.{Bool, true, false, cond}
 use mathlib.Core.Logic.{_↔_}
-use Prim.Native.Nat.{_∣_}
+use Prim.Native.Nat.{ℕ, _≤_, _∣_}
 use native.Mathlib.Nat.{mod-eq-zero-of-dvd, dvd-of-mod-eq-zero}
+use native.Mathlib.Omega.{arith}
+use lib.Dec.{eqb}
 use borrow.Author.Tests.{eqb-true, eq-eqb}
 use Rattle.units.specs.Units.{cents}
-use Rattle.units.specs.Grid.{stepping, gridOf, stepOf, onGrid}
+use Rattle.units.specs.Grid.{stepping, gridOf, lowestOf, stepOf, onGrid}
 use Rattle.units.specs.declared.Cents.{Cents}
 use Rattle.units.specs.declared.grid.Grid.{Grid}
-use Rattle.units.specs.declared.grid.Chosen.the-variants.{One}
+use Rattle.units.specs.declared.grid.Chosen.{Chosen}
+use Rattle.units.specs.declared.grid.Chosen.the-variants.{One, NoSuch}
 
 -- one proof over the step serves every grid
 pub on-divides : (g : Grid) (p : Cents) → (onGrid g p ≡ true) ↔ (stepOf g p .0 ∣ p .0)
 on-divides g p =
     (λ h. dvd-of-mod-eq-zero (stepOf g p .0) (eqb-true _ 0 h), λ d. eq-eqb _ 0 (mod-eq-zero-of-dvd (stepOf g p .0) d))
+
+-- the lowest step of each grid is 1 to 5 cents
+abbrev LowSteps : Chosen → Type 0
+LowSteps (One g) = (1 ≤ lowestOf g .0) × (lowestOf g .0 ≤ 5)
+LowSteps NoSuch = Unit {0}
+
+pub lowest-bounds : (number : ℕ) (g : Grid) → gridOf number ≡ One g → (1 ≤ lowestOf g .0) × (lowestOf g .0 ≤ 5)
+lowest-bounds number g h = subst LowSteps h (by (eqb number 1) (eqb number 2) (eqb number 3))
+  where
+    by : (a b c : Bool) → LowSteps (cond a (One (stepping 1 1)) (cond b (One (stepping 1 5)) (cond c (One (stepping 5 10)) NoSuch)))
+    by true b c = (omega arith, omega arith)
+    by false true c = (omega arith, omega arith)
+    by false false true = (omega arith, omega arith)
+    by false false false = tt
 
 -- E4 grid 2: 299 and 305 pass, 301 doesn't.
 abbrev pub E4 : Type 0
