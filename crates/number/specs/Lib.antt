@@ -5,4 +5,5 @@ pub mod Encode
 pub mod Steps
 pub mod Cases
 pub mod Laws
+pub mod Window
 pub mod Examples

@@ -1,0 +1,137 @@
+// One event out of the bytes at a place.
+use crate::Event;
+use crate::Reading;
+use crate::several::Several;
+use crate::several::read_several;
+use entry::Away;
+use entry::Settings;
+use number::Number;
+use units::Cents;
+use units::words::both;
+ghost use mathlib.Core.Path.{_≡_};
+ghost use lib.ListN.{drop};
+ghost use Rattle.tape.specs.Tape.{settingsOf, settings, away, submit, reading, numbersAt, stored, eventAt, entriesAfter};
+ghost use Rattle.tape.specs.Several.{afterSeveral};
+
+pub const NO_SUCH_EVENT: u32 = 33;
+
+pub const NO_SUCH_COUNT: u32 = 34;
+
+// The event numbers.
+const SETTINGS: u32 = 1;
+
+const AWAY: u32 = 2;
+
+const SUBMIT: u32 = 3;
+
+const TURN: u32 = 4;
+
+const OPEN: u32 = 5;
+
+// The most entries of a bulk.
+const BULK: u32 = 20;
+
+// The numbers of an entry.
+const NUMBERS: usize = 6;
+
+// The numbers of the settings.
+const VALUES: usize = 11;
+
+// The event that several numbers make, or the refusal of the one that is bad.
+fn made(all: Several, event: Event) -> Reading
+    ensures { λ r. ⌜ r ≡ afterSeveral all (Reading.Read event) ⌝ }
+{
+    match all {
+        Several::Read(end) => Reading::Read(event, end),
+        Several::Refused(code, place) => Reading::Refused(code, place),
+    }
+}
+
+// The settings come in this order.
+fn settings_of(v: [u32; 11]) -> Settings
+    ensures { λ r. ⌜ r ≡ settingsOf v ⌝ }
+{
+    Settings {
+        allocation: v[0],
+        grid: v[1],
+        option: v[2],
+        strike: Cents(v[3]),
+        drill: Cents(v[4]),
+        far: Cents(v[5]),
+        percent: v[6],
+        least: Cents(v[7]),
+        greatest: Cents(v[8]),
+        print: Cents(v[9]),
+        close: Cents(v[10]),
+    }
+}
+
+fn settings(s: &[u8], at: usize) -> Reading
+    ensures { λ r. ⌜ r ≡ reading settings (now (s .entry)) at at ⌝ }
+{
+    let mut values = [0u32; 11];
+    let all = read_several(s, at, VALUES, &mut values);
+    made(all, Event::Settings(settings_of(values)))
+}
+
+fn away(s: &[u8], at: usize) -> Reading
+    ensures { λ r. ⌜ r ≡ reading away (now (s .entry)) at at ⌝ }
+{
+    let first = number::read(s, at);
+    let Number::Read(bid, next) = first else {
+        return Reading::Refused(number::refusal(first), at);
+    };
+    let second = number::read(s, next);
+    let Number::Read(offer, end) = second else {
+        return Reading::Refused(number::refusal(second), next);
+    };
+    let quote = Away {
+        bid: Cents(bid),
+        offer: Cents(offer),
+    };
+    Reading::Read(Event::Away(quote), end)
+}
+
+// The count is asked as soon as it is read; then the entries' numbers go into the lent memory.
+fn submit(s: &[u8], at: usize, numbers: &mut [u32]) -> Reading
+    ensures answer { λ r. ⌜ r ≡ reading submit (now (s .entry)) at at ⌝ }
+    ensures entries { λ _. ⌜ now (numbers .exit) ≡ stored (drop 2 (numbersAt submit (now (s .entry)) at)) (now (numbers .entry)) ⌝ }
+{
+    let named = number::read(s, at);
+    let Number::Read(tenant, next) = named else {
+        return Reading::Refused(number::refusal(named), at);
+    };
+    let counted = number::read(s, next);
+    let Number::Read(count, from) = counted else {
+        return Reading::Refused(number::refusal(counted), next);
+    };
+    if both(1 <= count, count <= BULK) {
+        let all = read_several(s, from, NUMBERS * count as usize, numbers);
+        made(all, Event::Submit(tenant, count))
+    } else {
+        Reading::Refused(NO_SUCH_COUNT, next)
+    }
+}
+
+// The event at a place of a tape, or the refusal of the number that is bad. The numbers of a bulk's entries are stored from the
+// front of the lent memory, as far as it reaches.
+pub fn event(s: &[u8], at: usize, numbers: &mut [u32]) -> Reading
+    ensures answer { λ r. ⌜ r ≡ eventAt (now (s .entry)) at ⌝ }
+    ensures entries { λ _. ⌜ now (numbers .exit) ≡ entriesAfter (now (s .entry)) at (now (numbers .entry)) ⌝ }
+{
+    if s.len() <= at {
+        return Reading::End;
+    }
+    let told = number::read(s, at);
+    let Number::Read(kind, next) = told else {
+        return Reading::Refused(number::refusal(told), at);
+    };
+    match kind {
+        SETTINGS => settings(s, next),
+        AWAY => away(s, next),
+        SUBMIT => submit(s, next, numbers),
+        TURN => Reading::Read(Event::Turn, next),
+        OPEN => Reading::Read(Event::Open, next),
+        _ => Reading::Refused(NO_SUCH_EVENT, at),
+    }
+}

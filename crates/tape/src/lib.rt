@@ -1,0 +1,22 @@
+// The tape's events, one out of the bytes at a place: what happens, with its numbers and the place after it, or why it cannot be read.
+use entry::Away;
+use entry::Settings;
+
+pub mod events;
+mod several;
+
+// What a tape says: the five calls, each with its numbers. The numbers of a bulk's entries go into lent memory.
+pub enum Event {
+    Settings(Settings),
+    Away(Away),
+    Submit(u32, u32),
+    Turn,
+    Open,
+}
+
+// An event with the place after its last number, or a refusal with the place of the bad number, or the tape's end between two events.
+pub enum Reading {
+    Read(Event, usize),
+    Refused(u32, usize),
+    End,
+}
