@@ -1,0 +1,151 @@
+// The lines: each is laid out in the output from a place on, and the answer is the place after it.
+use crate::Output;
+use crate::parts::long_number;
+use crate::parts::newline;
+use crate::parts::number;
+use crate::parts::word;
+use book::Records;
+use book::records::FIELDS;
+use rows::ROWS;
+ghost use mathlib.Core.List.{_++_};
+ghost use Prim.Native.Nat.{_≤_};
+ghost use lib.ListN.{length};
+ghost use Rattle.lines.specs.Lines.{newline as Lines·newline, spaced, setLine, awayLine, submitLine, turnLine, refusedLine, openLine, fillLine, recordLine, goneLine, tapeLine, endLine};
+ghost use Rattle.lines.specs.Laying.{longest, longestWord, Room, Laid};
+
+// A word and one number.
+fn named(out: &mut Output, at: usize, w: &[u8], n: u32) -> usize
+    requires { ⌜ Room (now out) at longest ⌝ }
+    requires { ⌜ length (now w) ≤ longestWord ⌝ }
+    ensures { λ r. ⌜ Laid (now (out .entry)) at (now (w .entry) ++ spaced n ++ Lines·newline) longest (now (out .exit)) r ⌝ }
+{
+    let a = word(out, at, w);
+    let b = number(out, a, n);
+    newline(out, b)
+}
+
+// What settings are answered: `set C`.
+pub fn set_line(out: &mut Output, at: usize, code: u32) -> usize
+    requires { ⌜ Room (now out) at longest ⌝ }
+    ensures { λ r. ⌜ Laid (now (out .entry)) at (setLine code) longest (now (out .exit)) r ⌝ }
+{
+    named(out, at, b"set", code)
+}
+
+// What an away quote is answered: `away C`.
+pub fn away_line(out: &mut Output, at: usize, code: u32) -> usize
+    requires { ⌜ Room (now out) at longest ⌝ }
+    ensures { λ r. ⌜ Laid (now (out .entry)) at (awayLine code) longest (now (out .exit)) r ⌝ }
+{
+    named(out, at, b"away", code)
+}
+
+// What a submit is answered: `submit C`.
+pub fn submit_line(out: &mut Output, at: usize, code: u32) -> usize
+    requires { ⌜ Room (now out) at longest ⌝ }
+    ensures { λ r. ⌜ Laid (now (out .entry)) at (submitLine code) longest (now (out .exit)) r ⌝ }
+{
+    named(out, at, b"submit", code)
+}
+
+// A taken turn: `turn T C N F D`.
+pub fn turn_line(
+    out: &mut Output,
+    at: usize,
+    tenant: u32,
+    code: u32,
+    order: u32,
+    filled: u32,
+    disposition: u32,
+) -> usize
+    requires { ⌜ Room (now out) at longest ⌝ }
+    ensures { λ r. ⌜ Laid (now (out .entry)) at (turnLine tenant code order filled disposition) longest (now (out .exit)) r ⌝ }
+{
+    let a = word(out, at, b"turn");
+    let b = number(out, a, tenant);
+    let c = number(out, b, code);
+    let d = number(out, c, order);
+    let e = number(out, d, filled);
+    let f = number(out, e, disposition);
+    newline(out, f)
+}
+
+// A refused turn: `refused C`.
+pub fn refused_line(out: &mut Output, at: usize, code: u32) -> usize
+    requires { ⌜ Room (now out) at longest ⌝ }
+    ensures { λ r. ⌜ Laid (now (out .entry)) at (refusedLine code) longest (now (out .exit)) r ⌝ }
+{
+    named(out, at, b"refused", code)
+}
+
+// An opening: `open C P V`.
+pub fn open_line(out: &mut Output, at: usize, code: u32, price: u32, volume: u32) -> usize
+    requires { ⌜ Room (now out) at longest ⌝ }
+    ensures { λ r. ⌜ Laid (now (out .entry)) at (openLine code price volume) longest (now (out .exit)) r ⌝ }
+{
+    let a = word(out, at, b"open");
+    let b = number(out, a, code);
+    let c = number(out, b, price);
+    let d = number(out, c, volume);
+    newline(out, d)
+}
+
+// A fill: `fill N T Q P`.
+fn fill(out: &mut Output, at: usize, order: u32, tenant: u32, quantity: u32, price: u32) -> usize
+    requires { ⌜ Room (now out) at longest ⌝ }
+    ensures { λ r. ⌜ Laid (now (out .entry)) at (fillLine order tenant quantity price) longest (now (out .exit)) r ⌝ }
+{
+    let a = word(out, at, b"fill");
+    let b = number(out, a, order);
+    let c = number(out, b, tenant);
+    let d = number(out, c, quantity);
+    let e = number(out, d, price);
+    newline(out, e)
+}
+
+// Record k of the fill records; past the last place there is none, and nothing is laid out.
+pub fn fill_line(out: &mut Output, at: usize, records: &Records, k: usize) -> usize
+    requires { ⌜ Room (now out) at longest ⌝ }
+    ensures { λ r. ⌜ Laid (now (out .entry)) at (recordLine (now (records .entry)) k) longest (now (out .exit)) r ⌝ }
+{
+    if k < ROWS {
+        let first = FIELDS * k;
+        fill(
+            out,
+            at,
+            records[first],
+            records[first + 1],
+            records[first + 2],
+            records[first + 3],
+        )
+    } else {
+        at
+    }
+}
+
+// An order that the opening cancelled: `gone N`.
+pub fn gone_line(out: &mut Output, at: usize, order: u32) -> usize
+    requires { ⌜ Room (now out) at longest ⌝ }
+    ensures { λ r. ⌜ Laid (now (out .entry)) at (goneLine order) longest (now (out .exit)) r ⌝ }
+{
+    named(out, at, b"gone", order)
+}
+
+// A refused tape: `tape C B`.
+pub fn tape_line(out: &mut Output, at: usize, code: u32, place: u64) -> usize
+    requires { ⌜ Room (now out) at longest ⌝ }
+    ensures { λ r. ⌜ Laid (now (out .entry)) at (tapeLine code place) longest (now (out .exit)) r ⌝ }
+{
+    let a = word(out, at, b"tape");
+    let b = number(out, a, code);
+    let c = long_number(out, b, place);
+    newline(out, c)
+}
+
+// A tape that ends between events: `end`.
+pub fn end_line(out: &mut Output, at: usize) -> usize
+    requires { ⌜ Room (now out) at longest ⌝ }
+    ensures { λ r. ⌜ Laid (now (out .entry)) at endLine longest (now (out .exit)) r ⌝ }
+{
+    word(out, at, b"end\n")
+}
