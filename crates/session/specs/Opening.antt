@@ -5,7 +5,7 @@ use Prim.Native.Nat.{ℕ}
 use lib.Dec.{ltb}
 use Rattle.units.specs.Units.{cents, contracts}
 use Rattle.units.specs.Tests.{_and_, pick}
-use Rattle.units.specs.Cases.{_when_, firstOf}
+use Rattle.units.specs.Cases.{Case, _when_, firstOf}
 use Rattle.rows.specs.Rows.{rows}
 use Rattle.book.specs.Book.{Book, crosses}
 use Rattle.book.specs.Trading.{ofTenant}
@@ -17,6 +17,7 @@ use Rattle.tally.specs.declared.Tally.{Tally}
 use Rattle.tally.specs.Tallies.{added}
 use Rattle.session.specs.declared.OpenAnswer.{OpenAnswer}
 use Rattle.session.specs.declared.OpenAnswer.the-variants as answer
+use Rattle.session.specs.declared.Opened.{Opened}
 use Rattle.session.specs.declared.Session.{Session}
 use Rattle.session.specs.Market.{Market, marketOf, unset}
 
@@ -25,6 +26,10 @@ pub record OpenDone : Type 0 where
   pub market : Market
   pub answer : OpenAnswer
   pub records : List ℕ
+
+-- what an open answered, beside the book, the entries and the fill records that it left
+abbrev pub openDone : Opened → Book → List ℕ → List ℕ → OpenDone
+openDone r book entries records = record { market = marketOf (r .session) book entries; answer = r .answer; records = records }
 
 -- the paper's values: code, price, volume; a refused open has 0 for both
 pub record Line : Type 0 where
@@ -50,14 +55,16 @@ choiceOf s = priceOf (sourcesOf s)
 
 -- the numbers in the order of checking: 9 already open, 6 fewer than 216 fill records lent, 20 no valid opening price, given in no other case than
 -- that some resting buy is at or above a resting sell
-unfoldable pub openRefusal : Market → ℕ → ℕ
-openRefusal m lent =
-    firstOf 0
-    (unset (m .session)
+abbrev pub openCases : Market → ℕ → List Case
+openCases m lent =
+    unset (m .session)
     ∷ (9 when m .session .opened)
     ∷ (6 when ltb lent rows)
     ∷ (20 when crosses (m .book) and noneValid (choiceOf (m .session)))
-    ∷ [])
+    ∷ []
+
+unfoldable pub openRefusal : Market → ℕ → ℕ
+openRefusal m lent = firstOf 0 (openCases m lent)
 
 -- a session once open, with other tallies, and the market of it with another book
 abbrev pub openOn : Session → List Tally → Session
@@ -82,12 +89,14 @@ openQuiet m was = record {
   records = was;
 }
 
+-- contracts that each tenant's rows bought and sold at a price are added to the tallies
+abbrev pub talliesOpened : Book → ℕ → List Tally → List Tally
+talliesOpened b p = added (λ u. 0) (λ u. ofTenant b u (bought b p)) (λ u. ofTenant b u (sold b p))
+
 -- Otherwise it opens at the price chosen.
 unfoldable pub openAt : Market → List ℕ → ℕ → OpenDone
 openAt m was p = record {
-  market =
-      openedTo m (afterOpening (m .book) p)
-      (added (λ u. 0) (λ u. ofTenant (m .book) u (bought (m .book) p)) (λ u. ofTenant (m .book) u (sold (m .book) p)) (m .session .tallies));
+  market = openedTo m (afterOpening (m .book) p) (talliesOpened (m .book) p (m .session .tallies));
   answer = answer.AtPrice (cents p) (contracts (volume (m .book) p)) (openingRecords (m .book) p);
   records = openingWritten (m .book) p was;
 }

@@ -48,7 +48,7 @@ module _ (s : Session) (b : Book) (entries : List ℕ) where
   stands-is t r e = rw e
 
 -- 999,999 for each number given is far below what 64 bits hold
-sums-fit : (n all size : ℕ) → n ≤ lastNumber + 1 → all ≤ largest * (n - 1) → size ≤ largest → all + size < 2 ^ 64
+pub sums-fit : (n all size : ℕ) → n ≤ lastNumber + 1 → all ≤ largest * (n - 1) → size ≤ largest → all + size < 2 ^ 64
 sums-fit n all size h a z = omega (arith, mul-le-mul-left largest (less-one n h))
   where
     less-one : (n : ℕ) → n ≤ lastNumber + 1 → n - 1 ≤ lastNumber

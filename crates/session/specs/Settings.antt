@@ -1,6 +1,6 @@
 -- The calls settings and away.
 use mathlib.Core.Bool.{Bool, true, false}
-use mathlib.Core.List.{[], _∷_}
+use mathlib.Core.List.{List, [], _∷_}
 use Prim.Native.Nat.{ℕ}
 use lib.Dec.{ltb}
 use lib.ListN.{replicate}
@@ -10,9 +10,9 @@ use Rattle.units.specs.declared.grid.Chosen.the-variants.{One, NoSuch}
 use Rattle.units.specs.Units.{cents}
 use Rattle.units.specs.Grid.{gridOf, stepping}
 use Rattle.units.specs.Tests.{_or_, pick}
-use Rattle.units.specs.Cases.{_when_, firstOf}
+use Rattle.units.specs.Cases.{Case, _when_, firstOf}
 use Rattle.rows.specs.Rows.{highest}
-use Rattle.book.specs.Book.{Book}
+use Rattle.book.specs.Book.{emptyBook}
 use Rattle.entry.specs.declared.Settings.{Settings}
 use Rattle.entry.specs.declared.Terms.{Terms}
 use Rattle.entry.specs.declared.Away.{Away}
@@ -24,17 +24,6 @@ use Rattle.session.specs.Market.{Market, Called, marketOf, unset}
 
 abbrev pub noQuote : Away
 noQuote = record { bid = cents 0; offer = cents 0 }
-
--- an empty book of n rows: every column 0 throughout
-abbrev pub emptyBook : ℕ → Book
-emptyBook n = record {
-  places = n;
-  sides = replicate n 0;
-  prices = replicate n 0;
-  sizes = replicate n 0;
-  owners = replicate n 0;
-  numbers = replicate n 0;
-}
 
 -- a session on new terms: lanes, tallies and away quote empty, the rotation at tenant 0, the next number at 1 and the series unopened
 abbrev pub startedOn : Bool → Terms → Session
@@ -84,8 +73,11 @@ settingsOf m s = onGridOf m s (gridOf (s .grid))
 unfoldable pub tooHigh : Cents → Cents → Bool
 tooHigh bid offer = ltb highest (bid .0) or ltb highest (offer .0)
 
+abbrev pub awayCases : Session → Cents → Cents → List Case
+awayCases s bid offer = unset s ∷ (8 when tooHigh bid offer) ∷ []
+
 unfoldable pub awayRefusal : Session → Cents → Cents → ℕ
-awayRefusal s bid offer = firstOf 0 (unset s ∷ (8 when tooHigh bid offer) ∷ [])
+awayRefusal s bid offer = firstOf 0 (awayCases s bid offer)
 
 -- An accepted away replaces the present bid and offer, answers 0 and changes nothing else.
 abbrev pub withAway : Session → Cents → Cents → Session

@@ -10,13 +10,14 @@ use Rattle.units.specs.declared.grid.Chosen.{Chosen}
 use Rattle.units.specs.declared.grid.Chosen.the-variants.{One, NoSuch}
 use Rattle.units.specs.Grid.{gridOf}
 use Rattle.units.specs.Tests.{pick}
+use Rattle.book.specs.Book.{emptyBook}
 use Rattle.entry.specs.declared.Settings.{Settings}
 use Rattle.entry.specs.declared.Terms.{Terms}
 use Rattle.entry.specs.Settings.{inRange, termsOf}
 use Rattle.lanes.specs.Ring.{allEntries}
 use Rattle.session.specs.declared.Session.{Session}
 use Rattle.session.specs.Market.{Market, marketOf}
-use Rattle.session.specs.Settings.{startedOn, emptyBook, settingsOf, awayRefusal, withAway, awayOf}
+use Rattle.session.specs.Settings.{startedOn, settingsOf, awayRefusal, withAway, awayOf}
 
 module _ (m : Market) (s : Settings) where
   -- what of the grid of the number and of the ranges the code has in hand

@@ -1,6 +1,6 @@
 -- Laws of settling.
 use mathlib.Core.Path.{_≡_, refl, sym, ap, _∙_}
-use mathlib.Core.Logic.{_⊎_, ⊎-elim, _≢_}
+use mathlib.Core.Logic.{⊎-elim, _≢_}
 use mathlib.Core.Bool.{true, false}
 use mathlib.Core.List.{List}
 use Prim.Native.Nat.{ℕ, _≤_, _<_}
@@ -10,8 +10,8 @@ use lib.Dec.{eqb}
 use borrow.Author.Tests.{ne-eqb, eqb-true}
 use Rattle.units.specs.Units.{contracts}
 use Rattle.units.specs.Tests.{pick, order, less, equal, more}
-use Rattle.units.specs.Sums.{sumTo, sum-same, sum-none, sum-most}
-use Rattle.units.specs.Picked.{keep, keep-none, keep-most, same, same-in, same-out, same-most, same-both}
+use Rattle.units.specs.Sums.{sumTo, sum-same, sum-none}
+use Rattle.units.specs.Picked.{keep, keep-none, keep-most, same, same-in, same-out, same-most}
 use Rattle.units.specs.Places.{at, table, table-at}
 use Rattle.rows.specs.Rows.{rows}
 use Rattle.book.specs.Book.{Book, sideAt, sizeAt, ownerAt}
@@ -26,7 +26,7 @@ use Rattle.tally.specs.declared.Tally.{Tally}
 use Rattle.tally.specs.Tallies.{onlyFor}
 use Rattle.tally.specs.TallyLaws.{added-length, added-same, added-twice, in-all-added}
 use Rattle.session.specs.Opposite.{opposite}
-use Rattle.session.specs.Resting.{restingOn}
+use Rattle.session.specs.Resting.{side-most}
 use Rattle.session.specs.Credit.{rowCredit, CanCredit, shareTo, credited, Creditable}
 use Rattle.session.specs.CreditLaws.{only-none, only-sum}
 use Rattle.session.specs.Settle.{Settles, restingShare, talliesAfter, settledOf}
@@ -134,11 +134,8 @@ module _ (tallies : List Tally) (t : ℕ) (e : Entry) (b : Book) (was : List ℕ
   pub settled-tallies : credited (rowCredit tallies (e .side) t f) (sideAt b) (ownerAt b) (at shared) ≡ talliesAfter tallies t e b bound allocation
   settled-tallies = ⊎-elim settled-buy settled-sell (can .proper .sided)
 
-  -- what one side's rows traded is no more than rests there
-  side-most : (s : ℕ) → sumTo (same (sideAt b) s (at shared)) rows ≤ restingOn b s
-  unfolding restingOn
-  side-most s = rw (can .sound .places)
-      (sum-most rows (λ i p. same-both _≤_ (sideAt b) s (at shared) (sizeAt b) i (omega arith) (λ _. omega (arith, shared-is i p, traded-most b (opposite e) bound (e .size .0) allocation i))))
+  shared-most : (i : ℕ) → i < rows → at shared i ≤ sizeAt b i
+  shared-most i p = omega (arith, shared-is i p, traded-most b (opposite e) bound (e .size .0) allocation i)
 
   sides-are : (1 ≤ e .side) × (e .side ≤ 2)
   sides-are = ⊎-elim (λ h. omega (arith, eqb-true (e .side) 1 h)) (λ h. omega (arith, eqb-true (e .side) 2 h)) (can .proper .sided)
@@ -166,12 +163,12 @@ module _ (tallies : List Tally) (t : ℕ) (e : Entry) (b : Book) (was : List ℕ
         sided = λ i p h. (rested i p h .side-least, rested i p h .side-most);
         tenant = λ i p h. rested i p h .owner;
         turns = omega (arith, turns-then, sum-none {f = z} 9 (λ u _. refl), can .turns);
-        bought = omega (arith, bought-then, only-sum t (keep (eqb (e .side) 1) f) (can .tenant), keep-most (eqb (e .side) 1) f, filled-most, side-most 1, can .bought);
-        sold = omega (arith, sold-then, only-sum t (keep (eqb (e .side) 2) f) (can .tenant), keep-most (eqb (e .side) 2) f, filled-most, side-most 2, can .sold);
+        bought = omega (arith, bought-then, only-sum t (keep (eqb (e .side) 1) f) (can .tenant), keep-most (eqb (e .side) 1) f, filled-most, side-most b (can .sound .places) (at shared) shared-most 1, can .bought);
+        sold = omega (arith, sold-then, only-sum t (keep (eqb (e .side) 2) f) (can .tenant), keep-most (eqb (e .side) 2) f, filled-most, side-most b (can .sound .places) (at shared) shared-most 2, can .sold);
       }
     where
       rested : (i : ℕ) → i < rows → 0 < at shared i → SoundRow b (can .next) i
-      rested i p h = can .sound .row i p (omega (arith, shared-is i p, traded-most b (opposite e) bound (e .size .0) allocation i))
+      rested i p h = can .sound .row i p (omega (arith, shared-most i p))
 
 -- the same, as the code has it: the side, what the trade answered and what it shared
 module _ (tallies : List Tally) (t : ℕ) (e : Entry) (b : Book) (was : List ℕ) (can : Settles tallies t e b was) (bound allocation : ℕ)

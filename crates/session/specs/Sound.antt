@@ -59,6 +59,10 @@ pub record Ready (s : Session) (b : Book) : Type 0 where
   pub next-most : s .next ≤ lastNumber + 1
   pub tallies : SoundTallies s b
 
+-- what an open rests on: every part of a sound market but the away quote, the lanes and the open book
+abbrev pub BookSound : Session → Book → Type 0
+BookSound s b = s .accepted ≡ true → Ready s b
+
 -- what a market has once settings are accepted
 pub record Held (m : Market) : Type 0 where
   pub ready : Ready (m .session) (m .book)

@@ -13,6 +13,7 @@ ghost use Prim.Native.Nat.{ℕ};
 ghost use Rattle.book.specs.Book.{Book};
 ghost use Rattle.session.specs.Market.{marketOf, answeredOf};
 ghost use Rattle.session.specs.Settings.{tooHigh, awayRefusal, awayOf};
+ghost use Rattle.session.specs.Sound.{Sound};
 
 fn too_high(bid: Cents, offer: Cents) -> bool
     ensures { λ r. ⌜ r ≡ tooHigh bid offer ⌝ }
@@ -24,12 +25,15 @@ fn too_high(bid: Cents, offer: Cents) -> bool
 fn refusal(s: Session, bid: Cents, offer: Cents) -> u32
     ensures { λ r. ⌜ r ≡ awayRefusal s bid offer ⌝ }
 {
-    first(is_not(s.accepted), 21, first(too_high(bid, offer), 8, 0))
+    let unset = is_not(s.accepted);
+    let high = too_high(bid, offer);
+    first(unset, 21, first(high, 8, 0))
 }
 
 // Replaces the away quote.
 pub fn away(s: Session, bid: Cents, offer: Cents) -> Answered
-    ensures { λ r. ⌜ ((b : Book) (entries : List ℕ) → answeredOf r b entries ≡ awayOf (marketOf s b entries) bid offer) ⌝ }
+    ensures exact { λ r. ⌜ ((b : Book) (entries : List ℕ) → answeredOf r b entries ≡ awayOf (marketOf s b entries) bid offer) ⌝ }
+    ensures sound { λ r. ⌜ ((b : Book) (entries : List ℕ) → Sound (marketOf s b entries) → Sound (marketOf (r .session) b entries)) ⌝ }
 {
     let code = refusal(s, bid, offer);
     if 0 < code {

@@ -1,17 +1,27 @@
 // The session: settings, away quote, book, lanes, rotation and tallies of one option series, and the five calls on it.
 pub mod away;
 mod credit;
+pub mod open;
 pub mod settings;
 mod settle;
 pub mod submit;
 pub mod turn;
 
+use crate::settings::started;
 use entry::Away;
 use entry::Terms;
 use lanes::Lanes;
 use tally::Tally;
 use units::Cents;
 use units::Contracts;
+use units::grid::Grid;
+ghost use mathlib.Core.Path.{_≡_};
+ghost use mathlib.Core.List.{List};
+ghost use Prim.Native.Nat.{ℕ};
+ghost use Rattle.book.specs.Book.{Book};
+ghost use Rattle.session.specs.Market.{marketOf};
+ghost use Rattle.session.specs.Settings.{noTerms, newSession};
+ghost use Rattle.session.specs.Sound.{Sound};
 
 // All of a session that is small; the columns of the book and the lanes' entries are lent beside it. Nobody makes one but `Session::new` and the
 // calls.
@@ -23,6 +33,39 @@ pub struct Session {
     lanes: Lanes,
     next: u64,
     tallies: [Tally; 9],
+}
+
+// What a session has before settings are accepted.
+fn no_terms() -> Terms
+    ensures { λ r. ⌜ r ≡ noTerms ⌝ }
+{
+    let grid = Grid {
+        low: Cents(0),
+        high: Cents(0),
+    };
+    Terms {
+        allocation: 0,
+        grid: grid,
+        put: false,
+        strike: Cents(0),
+        drill: Cents(0),
+        far: Cents(0),
+        percent: 0,
+        least: Cents(0),
+        greatest: Cents(0),
+        print: Cents(0),
+        close: Cents(0),
+    }
+}
+
+impl Session {
+    // No accepted settings yet: all calls but settings answer 21, whatever book and entries are lent.
+    pub fn new() -> Session
+        ensures exact { λ r. ⌜ r ≡ newSession ⌝ }
+        ensures sound { λ r. ⌜ ((b : Book) (entries : List ℕ) → Sound (marketOf r b entries)) ⌝ }
+    {
+        started(false, no_terms())
+    }
 }
 
 // What settings, away and submit answer: 0, or the number of the refusal.

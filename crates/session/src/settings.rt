@@ -1,4 +1,4 @@
-// The calls settings and away.
+// The call settings.
 use crate::Answered;
 use crate::Session;
 use entry::Away;
@@ -16,20 +16,17 @@ ghost use mathlib.Core.Path.{_≡_};
 ghost use Rattle.book.specs.Book.{bookOf};
 ghost use Rattle.session.specs.Market.{marketOf, answeredOf};
 ghost use Rattle.session.specs.Settings.{startedOn, settingsOf};
+ghost use Rattle.session.specs.Sound.{Sound};
 
 // A session on new terms: nothing rests, waits or is counted, the rotation is at tenant 0 and the series unopened.
-pub fn started(accepted: bool, terms: Terms) -> Session
+pub(crate) fn started(accepted: bool, terms: Terms) -> Session
     ensures { λ r. ⌜ r ≡ startedOn accepted terms ⌝ }
 {
     let away = Away {
         bid: Cents(0),
         offer: Cents(0),
     };
-    let lanes = Lanes {
-        heads: [0u32; 9],
-        lens: [0u32; 9],
-        place: 0,
-    };
+    let lanes = Lanes::new();
     let tallies = tally::none();
     Session {
         accepted: accepted,
@@ -42,6 +39,7 @@ pub fn started(accepted: bool, terms: Terms) -> Session
     }
 }
 
+// Accepted settings start all of the market anew.
 pub fn settings(
     s: Session,
     given: Settings,
@@ -52,7 +50,8 @@ pub fn settings(
     numbers: &mut Column,
     entries: &mut Entries,
 ) -> Answered
-    ensures { λ r. ⌜ answeredOf r (bookOf (now (sides .exit)) (now (prices .exit)) (now (sizes .exit)) (now (owners .exit)) (now (numbers .exit))) (now (entries .exit)) ≡ settingsOf (marketOf s (bookOf (now (sides .entry)) (now (prices .entry)) (now (sizes .entry)) (now (owners .entry)) (now (numbers .entry))) (now (entries .entry))) given ⌝ }
+    ensures exact { λ r. ⌜ answeredOf r (bookOf (now (sides .exit)) (now (prices .exit)) (now (sizes .exit)) (now (owners .exit)) (now (numbers .exit))) (now (entries .exit)) ≡ settingsOf (marketOf s (bookOf (now (sides .entry)) (now (prices .entry)) (now (sizes .entry)) (now (owners .entry)) (now (numbers .entry))) (now (entries .entry))) given ⌝ }
+    ensures sound { λ r. ⌜ (Sound (marketOf s (bookOf (now (sides .entry)) (now (prices .entry)) (now (sizes .entry)) (now (owners .entry)) (now (numbers .entry))) (now (entries .entry))) → Sound (marketOf (r .session) (bookOf (now (sides .exit)) (now (prices .exit)) (now (sizes .exit)) (now (owners .exit)) (now (numbers .exit))) (now (entries .exit)))) ⌝ }
 {
     let chosen = Grid::of(given.grid);
     let Chosen::One(grid) = chosen else {

@@ -17,7 +17,7 @@ ghost use Rattle.book.specs.Book.{Book};
 ghost use Rattle.lanes.specs.Ring.{depth};
 ghost use Rattle.session.specs.Market.{marketOf, answeredOf};
 ghost use Rattle.session.specs.Submit.{wellCounted, someMalformed, submitRefusal, submitOf};
-ghost use Rattle.session.specs.Sound.{LanesSound};
+ghost use Rattle.session.specs.Sound.{LanesSound, Sound};
 
 // The most entries of a bulk.
 const BULK: u32 = 20;
@@ -77,7 +77,8 @@ fn refusal(s: Session, tenant: u32, count: u32, numbers: &[u32]) -> u32
     }
 }
 
-// A bulk joins the tenant's lane whole, or is refused.
+// A bulk joins the tenant's lane whole, or is refused. The book is not lent; of a sound market submit asks just the part that does not speak of it,
+// the lanes (`lanes-sound`).
 pub fn submit(
     s: Session,
     tenant: u32,
@@ -86,7 +87,8 @@ pub fn submit(
     entries: &mut Entries,
 ) -> Answered
     requires { ⌜ LanesSound s (now entries) ⌝ }
-    ensures { λ r. ⌜ ((b : Book) → answeredOf r b (now (entries .exit)) ≡ submitOf (marketOf s b (now (entries .entry))) tenant count (now (numbers .entry))) ⌝ }
+    ensures exact { λ r. ⌜ ((b : Book) → answeredOf r b (now (entries .exit)) ≡ submitOf (marketOf s b (now (entries .entry))) tenant count (now (numbers .entry))) ⌝ }
+    ensures sound { λ r. ⌜ ((b : Book) → Sound (marketOf s b (now (entries .entry))) → Sound (marketOf (r .session) b (now (entries .exit)))) ⌝ }
 {
     let code = refusal(s, tenant, count, numbers);
     if 0 < code {

@@ -16,7 +16,9 @@ use entry::best_quotes::quotes_of;
 use judge::Judged;
 use judge::disposition::disposition;
 use judge::verdict::judge;
+use lanes::Entries;
 use lanes::Served;
+use lanes::ring::head;
 use lanes::ring::taken;
 use lanes::rotation::served;
 use rows::Column;
@@ -30,7 +32,7 @@ use units::Cents;
 use units::Contracts;
 ghost use mathlib.Core.Path.{_≡_};
 ghost use mathlib.Core.List.{List};
-ghost use Prim.Native.Nat.{ℕ, _+_, _<_, _≤_};
+ghost use Prim.Native.Nat.{ℕ, _+_, _*_, _<_, _≤_};
 ghost use lib.ListN.{length};
 ghost use Rattle.rows.specs.Rows.{rows};
 ghost use Rattle.book.specs.Book.{bookOf};
@@ -39,8 +41,8 @@ ghost use Rattle.lanes.specs.Asked.{CanTake};
 ghost use Rattle.tally.specs.Tallies.{Countable};
 ghost use Rattle.entry.specs.Numbers.{lastNumber};
 ghost use Rattle.session.specs.Market.{marketOf};
-ghost use Rattle.session.specs.Sound.{TurnsHeld};
-ghost use Rattle.session.specs.Turn.{turnRefusal, afterTaking, turnDone, cancelTurn, restTurn, numbered, tradeTurn, orderTurn, entryTurn};
+ghost use Rattle.session.specs.Sound.{TurnsHeld, Sound};
+ghost use Rattle.session.specs.Turn.{turnRefusal, afterTaking, turnDone, cancelTurn, restTurn, numbered, tradeTurn, orderTurn, entryTurn, turnOf};
 ghost use Rattle.session.specs.TradeTurn.{disposed, CanTrade};
 ghost use Rattle.session.specs.OrderTurn.{CanOrder};
 ghost use Rattle.session.specs.EntryTurn.{CanEnter};
@@ -313,4 +315,41 @@ fn entry_turn(
     } else {
         order_turn(s, t, e, sides, prices, sizes, owners, numbers, records)
     }
+}
+
+// The call turn, with its fill records written as plain numbers, four to a record. `lent` is how many records the caller has room for.
+pub fn turn_core(
+    s: Session,
+    sides: &mut Column,
+    prices: &mut Column,
+    sizes: &mut Column,
+    owners: &mut Column,
+    numbers: &mut Column,
+    entries: &Entries,
+    lent: usize,
+    records: &mut Records,
+) -> Turned
+    requires { ⌜ Sound (marketOf s (bookOf (now sides) (now prices) (now sizes) (now owners) (now numbers)) (now entries)) ⌝ }
+    requires { ⌜ length (now records) ≡ 4 * rows ⌝ }
+    ensures exact { λ r. ⌜ turnDone r (bookOf (now (sides .exit)) (now (prices .exit)) (now (sizes .exit)) (now (owners .exit)) (now (numbers .exit))) (now (entries .entry)) (now (records .exit)) ≡ turnOf (marketOf s (bookOf (now (sides .entry)) (now (prices .entry)) (now (sizes .entry)) (now (owners .entry)) (now (numbers .entry))) (now (entries .entry))) lent (now (records .entry)) ⌝ }
+    ensures sound { λ r. ⌜ Sound (marketOf (r .session) (bookOf (now (sides .exit)) (now (prices .exit)) (now (sizes .exit)) (now (owners .exit)) (now (numbers .exit))) (now (entries .entry))) ⌝ }
+{
+    let code = refusal(s, lent);
+    if 0 < code {
+        return Turned {
+            session: s,
+            answer: TurnAnswer::Refused(code),
+        };
+    }
+    let lanes = s.lanes;
+    let next = served(lanes);
+    let Served::Lane(t) = next else {
+        return Turned {
+            session: s,
+            answer: TurnAnswer::Refused(5),
+        };
+    };
+    let e = head(lanes, entries, t);
+    let after = after_taking(s, t);
+    entry_turn(after, t, e, sides, prices, sizes, owners, numbers, records)
 }

@@ -7,4 +7,10 @@ use Rattle.session.proofs.away.refusal.Tie as tie
 pub refusal-spec : {M : Type 1} → statement M
 unfolding awayRefusal
 refusal-spec =
-    tie.close (tie.spec (λ c κs. search needs) (λ c κs. search needs) (λ c κs. search needs) (λ c κs. search needs) (λ c. cc))
+    tie.close
+    (tie.spec
+    (λ c κs. search needs)
+    (λ c κs. search needs)
+    (λ c κs. search needs)
+    (λ c κs. search needs)
+    (λ c. rw (c .first2 .ensures, c .before .first .ensures, c .before .before .too-high .ensures, c .before .before .before .is-not .ensures)))

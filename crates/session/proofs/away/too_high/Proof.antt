@@ -6,4 +6,4 @@ use Rattle.session.proofs.away.too_high.Tie as tie
 
 pub too-high-spec : {M : Type 1} → statement M
 unfolding tooHigh
-too-high-spec = tie.close (tie.spec (λ c κs. search needs) (λ c. cc))
+too-high-spec = tie.close (tie.spec (λ c κs. search needs) (λ c. c .either .ensures))

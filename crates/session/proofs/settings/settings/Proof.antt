@@ -1,25 +1,28 @@
 -- `session::settings::settings` meets its contract, by whether the number is a grid's and the values are in range.
-use mathlib.Core.Path.{sym, _∙_}
+use mathlib.Core.Path.{refl, sym, _∙_}
 use borrow.Author.Needs.{needs}
 use Rattle.session.specs.SettingsLaws.{settings-no-grid, settings-outside, settings-accepted}
+use Rattle.session.specs.SettingsSound.{settings-kept}
 use Rattle.session.proofs.settings.settings.Statement.{statement}
 use Rattle.session.proofs.settings.settings.Tie as tie
 
 returns : tie.Need-returns
-returns c = settings-no-grid _ _ (c .before .before .of .ensures) (c .enum-told .given .1)
+returns c = settings-kept _ _ _ refl (settings-no-grid _ _ (c .before .before .of .ensures) (c .enum-told .given .1))
 
 returns-2 : tie.Need-returns-2
 returns-2 c =
     let stored = c .before .before in
     let tested = stored .before .before .before .before .before .before in
     let known = tested .before .before .before in
-    settings-accepted _ _ _ _ _ (known .before .before .of .ensures) (known .chosen .given .1)
-    (sym (tested .before .in-range .ensures) ∙ tested .if1 .taken) (c .before .terms-of .ensures) (c .started .ensures)
+    settings-kept _ _ _ refl
+    (settings-accepted _ _ _ _ _ (known .before .before .of .ensures) (known .chosen .given .1)
+    (sym (tested .before .in-range .ensures) ∙ tested .if1 .taken) (c .before .terms-of .ensures) (c .started .ensures))
 
 returns-3 : tie.Need-returns-3
 returns-3 c =
     let known = c .before .before .before in
-    settings-outside _ _ _ (known .before .before .of .ensures) (known .chosen .given .1) (sym (c .before .in-range .ensures) ∙ c .if1 .left)
+    settings-kept _ _ _ refl
+    (settings-outside _ _ _ (known .before .before .of .ensures) (known .chosen .given .1) (sym (c .before .in-range .ensures) ∙ c .if1 .left))
 
 pub settings-spec : {M : Type 1} → statement M
 settings-spec =

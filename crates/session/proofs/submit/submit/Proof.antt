@@ -4,6 +4,7 @@ use native.Mathlib.Omega.{arith}
 use borrow.Author.Needs.{needs}
 use Rattle.session.specs.Market.{marketOf}
 use Rattle.session.specs.SubmitLaws.{joins, submit-refused, submit-accepted}
+use Rattle.session.specs.SubmitSound.{submit-kept}
 use Rattle.session.proofs.submit.submit.Statement.{statement}
 use Rattle.session.proofs.submit.submit.Tie as tie
 
@@ -20,16 +21,17 @@ joined-requires c κs =
     record { lane = j .lane; room = j .room }
 
 returns-2 : tie.Need-returns-2
-returns-2 c b =
-    submit-accepted (marketOf _ b _) _ _ _ _ (c .before .before .before .before .before .refusal .ensures) _ _ (omega arith) (c .joined .ensures)
-    (c .before .put-all .ensures)
+returns-2 c =
+    submit-kept _ _ _ _ _ _ _
+    (λ b. submit-accepted (marketOf _ b _) _ _ _ _ (c .before .before .before .before .before .refusal .ensures) _ _ (omega arith) (c .joined .ensures)
+    (c .before .put-all .ensures))
 
 pub submit-spec : {M : Type 1} → statement M
 submit-spec =
     tie.close
     (tie.spec
     (λ c κs. search needs)
-    (λ c. λ b. submit-refused (marketOf _ b _) _ _ _ _ (c .before .refusal .ensures) (c .if1 .taken))
+    (λ c. submit-kept _ _ _ _ _ _ _ (λ b. submit-refused (marketOf _ b _) _ _ _ _ (c .before .refusal .ensures) (c .if1 .taken)))
     put-all-requires
     joined-requires
     returns-2)

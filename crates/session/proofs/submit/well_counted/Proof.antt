@@ -7,4 +7,4 @@ use Rattle.session.proofs.submit.well_counted.Tie as tie
 
 pub well-counted-spec : {M : Type 1} → statement M
 unfolding wellCounted from1to
-well-counted-spec = tie.close (tie.spec (λ c κs. search needs) (λ c. search needs) (λ c κs. search needs) (λ c. cc))
+well-counted-spec = tie.close (tie.spec (λ c κs. search needs) (λ c. search needs) (λ c κs. search needs) (λ c. rw (c .both2 .ensures, c .before .both .ensures)))

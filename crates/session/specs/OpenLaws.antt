@@ -1,0 +1,95 @@
+-- The cases of an open, as the code meets them.
+use mathlib.Core.Path.{_≡_, refl, sym, ap, _∙_}
+use mathlib.Core.Bool.{Bool, true, false, true≢false}
+use mathlib.Core.List.{List}
+use Prim.Native.Nat.{ℕ, _≤_, _<_}
+use lib.Dec.{ltb}
+use borrow.Author.Tests.{lt-ltb, le-ltb}
+use Rattle.units.specs.declared.Cents.{Cents}
+use Rattle.units.specs.Units.{cents, contracts}
+use Rattle.units.specs.Tests.{_and_, isNot, pick, fails, not-holds, not-false}
+use Rattle.rows.specs.Rows.{rows}
+use Rattle.book.specs.Book.{Book, crosses}
+use Rattle.book.specs.Opening.{afterOpening, openingWritten}
+use Rattle.opening.specs.declared.matching.Matched.{Matched}
+use Rattle.opening.specs.Answers.{matchedOf}
+use Rattle.price.specs.declared.Choice.{Choice}
+use Rattle.price.specs.declared.Choice.the-variants as choice
+use Rattle.price.specs.Price.{chosen}
+use Rattle.tally.specs.declared.Tally.{Tally}
+use Rattle.session.specs.declared.OpenAnswer.the-variants as answer
+use Rattle.session.specs.declared.Session.{Session}
+use Rattle.session.specs.declared.open.Way.{Way}
+use Rattle.session.specs.declared.open.Way.the-variants.{Refused, Quiet, At}
+use Rattle.session.specs.Market.{Market, marketOf}
+use Rattle.session.specs.Opening.{openRefusal, choiceOf, openOn, openQuiet, openAt, openOf, talliesOpened}
+use Rattle.session.specs.OpenWay.{wayOf, byWay}
+
+-- which way it goes, by what each test says
+module _ (m : Market) (lent : ℕ) where
+  pub way-21 : m .session .accepted ≡ false → Refused 21 ≡ wayOf m lent
+  unfolding wayOf openRefusal pick isNot
+  way-21 h = rw h
+
+  module _ (set : m .session .accepted ≡ true) where
+    pub way-9 : m .session .opened ≡ true → Refused 9 ≡ wayOf m lent
+    unfolding wayOf openRefusal pick isNot
+    way-9 h = rw (set, h)
+
+    module _ (unopened : m .session .opened ≡ false) where
+      pub way-6 : lent < rows → Refused 6 ≡ wayOf m lent
+      unfolding wayOf openRefusal pick isNot
+      way-6 h = rw (set, unopened, lt-ltb lent rows h)
+
+      module _ (room : rows ≤ lent) where
+        pub way-quiet : crosses (m .book) ≡ false → Quiet ≡ wayOf m lent
+        unfolding wayOf openRefusal pick isNot _and_
+        way-quiet h = rw (set, unopened, le-ltb lent rows room, h)
+
+        module _ (crossed : crosses (m .book) ≡ true) {c : Choice} (is : c ≡ choiceOf (m .session)) where
+          pub way-20 : c ≡ choice.NoneValid → Refused 20 ≡ wayOf m lent
+          unfolding wayOf openRefusal pick isNot _and_ choiceOf
+          way-20 h = rw (set, unopened, le-ltb lent rows room, crossed, sym is ∙ h)
+
+          pub way-at : (price : Cents) → c ≡ choice.At price → At price ≡ wayOf m lent
+          unfolding wayOf openRefusal pick isNot _and_ choiceOf
+          way-at price h = rw (set, unopened, le-ltb lent rows room, crossed, sym is ∙ h)
+
+  -- only a session with accepted settings is given a price
+  pub priced-accepted : {w : Way} (price : Cents) → w ≡ wayOf m lent → w ≡ At price → m .session .accepted ≡ true
+  priced-accepted price is at = not-false (m .session .accepted) (fails _ (λ h. true≢false (ap refuses (way-21 (not-holds _ h) ∙ (sym is ∙ at)))))
+    where
+      refuses : Way → Bool
+      refuses (Refused code) = true
+      refuses Quiet = false
+      refuses (At p) = false
+
+  -- and what an open makes of a market is what its way makes of it
+  pub by-way : (was : List ℕ) (w : Way) → w ≡ wayOf m lent → byWay m was w ≡ openOf m lent was
+  unfolding wayOf openOf pick
+  by-way was w is = ap (byWay m was) is ∙ go (ltb 0 (openRefusal m lent)) (crosses (m .book))
+    where
+      go : (t c : Bool) →
+          byWay m was (pick t (Refused (openRefusal m lent)) (pick c (At (cents (chosen (choiceOf (m .session))))) Quiet)) ≡
+          pick t (byWay m was (Refused (openRefusal m lent))) (pick c (openAt m was (chosen (choiceOf (m .session)))) (openQuiet m was))
+      go true c = refl
+      go false true = refl
+      go false false = refl
+
+module _ (m : Market) (was : List ℕ) where
+  pub quiet-is : (after : Session) → after ≡ openOn (m .session) (m .session .tallies) →
+      record { market = marketOf after (m .book) (m .entries); answer = answer.AtPrice (cents 0) (contracts 0) 0; records = was } ≡ openQuiet m was
+  unfolding openQuiet
+  quiet-is after e = rw e
+
+  pub matched-is :
+      (price : Cents) (b : Book) (records : List ℕ) (done : Matched) (counted : List Tally) (after : Session) →
+      b ≡ afterOpening (m .book) (price .0) →
+      records ≡ openingWritten (m .book) (price .0) was →
+      done ≡ matchedOf (m .book) (price .0) →
+      counted ≡ talliesOpened (m .book) (price .0) (m .session .tallies) →
+      after ≡ openOn (m .session) counted →
+      record { market = marketOf after b (m .entries); answer = answer.AtPrice price (done .volume) (done .fills); records = records } ≡
+      openAt m was (price .0)
+  unfolding openAt matchedOf
+  matched-is price b records done counted after e₁ e₂ e₃ e₄ e₅ = rw (e₅, e₄, e₃, e₂, e₁)
