@@ -1,0 +1,30 @@
+-- Fill records as a row of fills.
+use Prim.Native.Nat.{ℕ, zero, suc, _+_, _*_, _≤_}
+use mathlib.Core.List.{List, [], _∷_, _++_}
+use lib.ListN.{length, drop}
+use Rattle.units.specs.Units.{cents, contracts}
+use Rattle.units.specs.Places.{at}
+use Rattle.rows.specs.Rows.{rows}
+use Rattle.fills.specs.declared.Fill.{Fill}
+
+-- record i of flat numbers, four to a record: order number, tenant, quantity and price
+abbrev pub fillAt : List ℕ → ℕ → Fill
+fillAt records i = record {
+  number = at records (4 * i);
+  tenant = at records (4 * i + 1);
+  quantity = contracts (at records (4 * i + 2));
+  price = cents (at records (4 * i + 3));
+}
+
+-- n fills, from record i on
+abbrev pub fillsFrom : List ℕ → ℕ → ℕ → List Fill
+fillsFrom records i zero = []
+fillsFrom records i (suc n) = fillAt records i ∷ fillsFrom records (suc i) n
+
+-- the row with the first n fills at its start; fills past those written stay as found
+abbrev pub stored : List ℕ → ℕ → List Fill → List Fill
+stored records n row = fillsFrom records 0 n ++ drop n row
+
+-- so many fills are among the records, and the row has room for them
+abbrev pub Fits : ℕ → List Fill → Type 0
+Fits n row = (n ≤ rows) × (n ≤ length row)
