@@ -1,0 +1,102 @@
+-- The program's loop: each turn reads the tape, writes what is printed, or takes one step along the tape.
+use mathlib.Core.Path.{_≡_, _∙_}
+use mathlib.Core.List.{List}
+use Prim.Native.Nat.{ℕ, _+_, _*_, _-_, _≤_, _<_}
+use native.Mathlib.Omega.{arith}
+use lib.ListN.{length, take}
+use lib.Seq.{length-take-le}
+use Rattle.rows.specs.Rows.{rows}
+use Rattle.lines.specs.Laying.{output}
+use Rattle.session.specs.Market.{Market}
+use Rattle.session.specs.Sound.{Sound}
+use Rattle.replay.specs.declared.stepping.Reached.{Reached}
+use Rattle.replay.specs.Listing.{longestEvent}
+use Rattle.replay.specs.Replay.{CanReplay}
+use Rattle.replay.specs.Stepping.{Step, StepsTo}
+use Rattle.rehearse.specs.Window.{Refilled}
+
+-- the bytes of the window
+abbrev pub windowLong : ℕ
+windowLong = 65536
+
+-- the numbers of a bulk's entries: six for each of twenty
+abbrev pub givenLong : ℕ
+givenLong = 120
+
+-- a place of the tape is below this, whatever the turns that are left read
+abbrev pub farthest : ℕ
+farthest = 9223372036854775808
+
+-- how the program stands before each turn of its loop: the market is sound, the bytes printed lie in the output, those at hand in the window, and
+-- places of the tape cannot overflow in the turns that are left
+pub record Rehearsing (m : Market) (records given window out : List ℕ) (at from to base turns : ℕ) : Type 0 where
+  pub sound : Sound m
+  pub records-long : length records ≡ 4 * rows
+  pub given-long : length given ≡ givenLong
+  pub window-long : length window ≡ windowLong
+  pub out-long : length out ≡ output
+  pub printed : at ≤ output
+  pub begun : from ≤ to
+  pub within : to ≤ windowLong
+  pub bounded : base + windowLong * turns ≤ farthest
+
+pub fewer : (turns : ℕ) → 0 < turns → turns - 1 < turns
+fewer turns h = omega arith
+
+module _ {m : Market} {records given window out : List ℕ} {at from to base turns : ℕ} (r : Rehearsing m records given window out at from to base turns) where
+  pub reads :
+      0 < turns → {next : List ℕ} {end first : ℕ} → Refilled window from to base next end first → Rehearsing m records given next out at 0 end first (turns - 1)
+  reads h {next} {end} {first} f = record {
+    sound = r .sound;
+    records-long = r .records-long;
+    given-long = r .given-long;
+    window-long = f .long ∙ r .window-long;
+    out-long = r .out-long;
+    printed = r .printed;
+    begun = omega arith;
+    within = omega (arith, f .most, f .long, r .window-long);
+    bounded = omega (arith, r .bounded, r .begun, r .within, f .place);
+  }
+
+  pub writes : 0 < turns → Rehearsing m records given window out 0 from to base (turns - 1)
+  writes h = record {
+    sound = r .sound;
+    records-long = r .records-long;
+    given-long = r .given-long;
+    window-long = r .window-long;
+    out-long = r .out-long;
+    printed = omega arith;
+    begun = r .begun;
+    within = r .within;
+    bounded = omega (arith, r .bounded);
+  }
+
+  -- the bytes at hand
+  pub at-hand : length (take to window) ≡ to
+  at-hand = length-take-le to window (omega (arith, r .within, r .window-long))
+
+  pub can-step : longestEvent ≤ output - at → CanReplay m records out at
+  can-step h = record {
+    sound = r .sound;
+    records-long = r .records-long;
+    room = record { long = r .out-long; fits = omega (arith, r .printed) };
+  }
+
+  pub place-fits : base + length (take to window) < 18446744073709551616
+  place-fits = omega (arith, at-hand, r .bounded, r .within)
+
+  pub steps :
+      0 < turns → longestEvent ≤ output - at → {p : Step} {s : Reached} {after : Market} {numbers written lent : List ℕ} →
+      StepsTo p (take to window) from out at s after numbers written lent → length numbers ≡ givenLong →
+      Rehearsing after written numbers window lent (s .at) (s .from) to base (turns - 1)
+  steps h room {s = s} d same = record {
+    sound = d .sound;
+    records-long = d .records-long;
+    given-long = same;
+    window-long = r .window-long;
+    out-long = d .laid .long;
+    printed = omega (arith, d .laid .near, r .printed);
+    begun = omega (arith, d .on-tape (omega (arith, at-hand, r .begun)), at-hand);
+    within = r .within;
+    bounded = omega (arith, r .bounded);
+  }

@@ -1,0 +1,122 @@
+// The program: replays a tape and prints what the market answers.
+//
+// The tape comes from the file that the first argument names, or from standard input. It is read through a window of 64 KiB and printed through an
+// output of the same size, so a tape of any length takes the same memory. A program has no exit status; how the replay ended is written as one byte
+// to file descriptor 3, for the command above: `0` the tape ended, `1` it was refused, `2` a file could not be opened, read or written.
+mod window;
+
+use lines::OUTPUT;
+use replay::LONGEST_EVENT;
+use replay::stepping::GOING;
+use replay::stepping::step;
+use session::Session;
+use window::FAILED;
+use window::is_short;
+use window::refill;
+ghost use Prim.Native.Nat.{_≤_};
+ghost use lib.ListN.{length};
+
+// Where the status goes.
+const STATUS_FILENO: i32 = 3;
+
+// More turns of the loop than any run takes: each reads, writes or steps once.
+const TURNS: u64 = 140737488355328;
+
+fn tell(status: u8) {
+    libc::write(STATUS_FILENO, &[status]);
+}
+
+// Writes out what is printed.
+fn flush(out: &[u8], at: usize) -> u8
+    requires { ⌜ at ≤ length (now out) ⌝ }
+{
+    if io::write_all(libc::STDOUT_FILENO, &out[..at]) {
+        GOING
+    } else {
+        FAILED
+    }
+}
+
+// The tape's file, or a negative number where it cannot be opened.
+fn tape_file() -> i32 {
+    if os::arg_count() < 2 {
+        return libc::STDIN_FILENO;
+    }
+    let mut path = io::buffer();
+    let length = os::arg(1, &mut path);
+    if os::errno() != 0 {
+        os::fail(b"tape");
+        return -1;
+    }
+    let fd = os::open_read(&path[..length]);
+    if fd < 0 {
+        os::fail(&path[..length]);
+    }
+    fd
+}
+
+fn main() {
+    let fd = tape_file();
+    if fd < 0 {
+        tell(FAILED);
+        return;
+    }
+    let mut s = Session::new();
+    let mut sides = [0u32; 216];
+    let mut prices = [0u32; 216];
+    let mut sizes = [0u32; 216];
+    let mut owners = [0u32; 216];
+    let mut numbers = [0u32; 216];
+    let mut entries = [0u32; 3456];
+    let mut records = [0u32; 864];
+    let mut given = [0u32; 120];
+    let mut window = io::large_buffer();
+    let mut out = io::large_buffer();
+    let mut at: usize = 0;
+    let mut from: usize = 0;
+    let mut to: usize = 0;
+    let mut base: u64 = 0;
+    let mut more = true;
+    let mut status = GOING;
+    let mut turns = TURNS;
+    while turns > 0 && status == GOING {
+        turns -= 1;
+        if is_short(from, to, more) {
+            let filled = refill(fd, &mut window, from, to, base);
+            base = filled.base;
+            from = 0;
+            to = filled.to;
+            more = filled.more;
+            status = filled.status;
+        } else if OUTPUT - at < LONGEST_EVENT {
+            status = flush(&out, at);
+            at = 0;
+        } else {
+            let done = step(
+                s,
+                &window[..to],
+                from,
+                base,
+                &mut given,
+                &mut sides,
+                &mut prices,
+                &mut sizes,
+                &mut owners,
+                &mut numbers,
+                &mut entries,
+                &mut records,
+                &mut out,
+                at,
+            );
+            s = done.session;
+            at = done.at;
+            from = done.from;
+            status = done.status;
+        }
+    }
+    if flush(&out, at) == GOING {
+        tell(status);
+    } else {
+        tell(FAILED);
+    }
+}

@@ -1,0 +1,217 @@
+// The five events, each run on the market and printed.
+use crate::Stepped;
+use crate::listing::open_lines;
+use crate::listing::turn_lines;
+use book::Records;
+use entry::Away;
+use entry::Settings;
+use lanes::Entries;
+use lines::Output;
+use lines::line::away_line;
+use lines::line::set_line;
+use lines::line::submit_line;
+use rows::Column;
+use rows::ROWS;
+use session::Session;
+use session::away::away;
+use session::open::open_core;
+use session::settings::settings;
+use session::submit::submit;
+use session::turn::turn_core;
+use tape::Event;
+ghost use mathlib.Core.Path.{_≡_};
+ghost use mathlib.Core.List.{List};
+ghost use Prim.Native.Nat.{ℕ, _*_, min};
+ghost use lib.ListN.{length};
+ghost use Rattle.rows.specs.Rows.{rows};
+ghost use Rattle.book.specs.Book.{Book, bookOf};
+ghost use Rattle.lines.specs.Laying.{Room};
+ghost use Rattle.tape.specs.Tape.{entryNumbers};
+ghost use Rattle.session.specs.Market.{marketOf};
+ghost use Rattle.session.specs.Sound.{LanesSound, BookSound};
+ghost use Rattle.replay.specs.Listing.{longestEvent};
+ghost use Rattle.replay.specs.Replay.{settingsPrinted, awayPrinted, submitPrinted, turnPrinted, openPrinted, eventPrinted, CanReplay, Replayed};
+
+// The numbers of an entry.
+const NUMBERS: usize = 6;
+
+fn settings_event(
+    s: Session,
+    given: Settings,
+    sides: &mut Column,
+    prices: &mut Column,
+    sizes: &mut Column,
+    owners: &mut Column,
+    numbers: &mut Column,
+    entries: &mut Entries,
+    out: &mut Output,
+    at: usize,
+) -> Stepped
+    requires { ⌜ Room (now out) at longestEvent ⌝ }
+    ensures { λ r. ⌜ ((was : List ℕ) → CanReplay (marketOf s (bookOf (now (sides .entry)) (now (prices .entry)) (now (sizes .entry)) (now (owners .entry)) (now (numbers .entry))) (now (entries .entry))) was (now (out .entry)) at → Replayed (settingsPrinted (marketOf s (bookOf (now (sides .entry)) (now (prices .entry)) (now (sizes .entry)) (now (owners .entry)) (now (numbers .entry))) (now (entries .entry))) given was) (now (out .entry)) at (marketOf (r .session) (bookOf (now (sides .exit)) (now (prices .exit)) (now (sizes .exit)) (now (owners .exit)) (now (numbers .exit))) (now (entries .exit))) was (now (out .exit)) (r .at)) ⌝ }
+{
+    let done = settings(s, given, sides, prices, sizes, owners, numbers, entries);
+    let end = set_line(out, at, done.code);
+    let after = done.session;
+    Stepped {
+        session: after,
+        at: end,
+    }
+}
+
+fn away_event(s: Session, quote: Away, out: &mut Output, at: usize) -> Stepped
+    requires { ⌜ Room (now out) at longestEvent ⌝ }
+    ensures { λ r. ⌜ ((b : Book) (entries was : List ℕ) → CanReplay (marketOf s b entries) was (now (out .entry)) at → Replayed (awayPrinted (marketOf s b entries) quote was) (now (out .entry)) at (marketOf (r .session) b entries) was (now (out .exit)) (r .at)) ⌝ }
+{
+    let bid = quote.bid;
+    let offer = quote.offer;
+    let done = away(s, bid, offer);
+    let end = away_line(out, at, done.code);
+    let after = done.session;
+    Stepped {
+        session: after,
+        at: end,
+    }
+}
+
+// The numbers of so many entries, as far as they are lent.
+fn numbers_of(count: u32, lent: usize) -> usize
+    ensures { λ r. ⌜ r ≡ min (entryNumbers * count) lent ⌝ }
+{
+    let asked = NUMBERS * count as usize;
+    if asked < lent { asked } else { lent }
+}
+
+fn submit_event(
+    s: Session,
+    tenant: u32,
+    count: u32,
+    given: &[u32],
+    entries: &mut Entries,
+    out: &mut Output,
+    at: usize,
+) -> Stepped
+    requires { ⌜ LanesSound s (now entries) ⌝ }
+    requires { ⌜ Room (now out) at longestEvent ⌝ }
+    ensures { λ r. ⌜ ((b : Book) (was : List ℕ) → CanReplay (marketOf s b (now (entries .entry))) was (now (out .entry)) at → Replayed (submitPrinted (marketOf s b (now (entries .entry))) tenant count (now (given .entry)) was) (now (out .entry)) at (marketOf (r .session) b (now (entries .exit))) was (now (out .exit)) (r .at)) ⌝ }
+{
+    let n = numbers_of(count, given.len());
+    let done = submit(s, tenant, count, &given[..n], entries);
+    let end = submit_line(out, at, done.code);
+    let after = done.session;
+    Stepped {
+        session: after,
+        at: end,
+    }
+}
+
+fn turn_event(
+    s: Session,
+    sides: &mut Column,
+    prices: &mut Column,
+    sizes: &mut Column,
+    owners: &mut Column,
+    numbers: &mut Column,
+    entries: &Entries,
+    records: &mut Records,
+    out: &mut Output,
+    at: usize,
+) -> Stepped
+    requires { ⌜ CanReplay (marketOf s (bookOf (now sides) (now prices) (now sizes) (now owners) (now numbers)) (now entries)) (now records) (now out) at ⌝ }
+    ensures { λ r. ⌜ Replayed (turnPrinted (marketOf s (bookOf (now (sides .entry)) (now (prices .entry)) (now (sizes .entry)) (now (owners .entry)) (now (numbers .entry))) (now (entries .entry))) (now (records .entry))) (now (out .entry)) at (marketOf (r .session) (bookOf (now (sides .exit)) (now (prices .exit)) (now (sizes .exit)) (now (owners .exit)) (now (numbers .exit))) (now (entries .entry))) (now (records .exit)) (now (out .exit)) (r .at) ⌝ }
+{
+    let done = turn_core(
+        s,
+        sides,
+        prices,
+        sizes,
+        owners,
+        numbers,
+        entries,
+        ROWS,
+        records,
+    );
+    let answer = done.answer;
+    let end = turn_lines(answer, records, out, at);
+    let after = done.session;
+    Stepped {
+        session: after,
+        at: end,
+    }
+}
+
+fn open_event(
+    s: Session,
+    sides: &Column,
+    prices: &Column,
+    sizes: &mut Column,
+    owners: &Column,
+    numbers: &Column,
+    records: &mut Records,
+    out: &mut Output,
+    at: usize,
+) -> Stepped
+    requires { ⌜ BookSound s (bookOf (now sides) (now prices) (now sizes) (now owners) (now numbers)) ⌝ }
+    requires { ⌜ length (now records) ≡ 4 * rows ⌝ }
+    requires { ⌜ Room (now out) at longestEvent ⌝ }
+    ensures { λ r. ⌜ ((entries : List ℕ) → CanReplay (marketOf s (bookOf (now (sides .entry)) (now (prices .entry)) (now (sizes .entry)) (now (owners .entry)) (now (numbers .entry))) entries) (now (records .entry)) (now (out .entry)) at → Replayed (openPrinted (marketOf s (bookOf (now (sides .entry)) (now (prices .entry)) (now (sizes .entry)) (now (owners .entry)) (now (numbers .entry))) entries) (now (records .entry))) (now (out .entry)) at (marketOf (r .session) (bookOf (now (sides .entry)) (now (prices .entry)) (now (sizes .exit)) (now (owners .entry)) (now (numbers .entry))) entries) (now (records .exit)) (now (out .exit)) (r .at)) ⌝ }
+{
+    let before = *sizes;
+    let done = open_core(s, sides, prices, sizes, owners, numbers, ROWS, records);
+    let answer = done.answer;
+    let end = open_lines(answer, &before, sizes, numbers, records, out, at);
+    let after = done.session;
+    Stepped {
+        session: after,
+        at: end,
+    }
+}
+
+// One event of a tape, run on the market and printed from a place of the output on.
+pub fn event(
+    s: Session,
+    e: Event,
+    given: &[u32],
+    sides: &mut Column,
+    prices: &mut Column,
+    sizes: &mut Column,
+    owners: &mut Column,
+    numbers: &mut Column,
+    entries: &mut Entries,
+    records: &mut Records,
+    out: &mut Output,
+    at: usize,
+) -> Stepped
+    requires { ⌜ CanReplay (marketOf s (bookOf (now sides) (now prices) (now sizes) (now owners) (now numbers)) (now entries)) (now records) (now out) at ⌝ }
+    ensures { λ r. ⌜ Replayed (eventPrinted (marketOf s (bookOf (now (sides .entry)) (now (prices .entry)) (now (sizes .entry)) (now (owners .entry)) (now (numbers .entry))) (now (entries .entry))) e (now (given .entry)) (now (records .entry))) (now (out .entry)) at (marketOf (r .session) (bookOf (now (sides .exit)) (now (prices .exit)) (now (sizes .exit)) (now (owners .exit)) (now (numbers .exit))) (now (entries .exit))) (now (records .exit)) (now (out .exit)) (r .at) ⌝ }
+{
+    match e {
+        Event::Settings(asked) => settings_event(
+            s,
+            asked,
+            sides,
+            prices,
+            sizes,
+            owners,
+            numbers,
+            entries,
+            out,
+            at,
+        ),
+        Event::Away(quote) => away_event(s, quote, out, at),
+        Event::Submit(tenant, count) => submit_event(s, tenant, count, given, entries, out, at),
+        Event::Turn => turn_event(
+            s,
+            sides,
+            prices,
+            sizes,
+            owners,
+            numbers,
+            entries,
+            records,
+            out,
+            at,
+        ),
+        Event::Open => open_event(s, sides, prices, sizes, owners, numbers, records, out, at),
+    }
+}
