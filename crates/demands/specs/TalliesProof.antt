@@ -1,0 +1,299 @@
+-- The tallies as sums: each call adds to each tenant's tally what its answer and its records say, and as much bought as sold.
+use mathlib.Core.Path.{_≡_, refl, sym, ap, ap₂, _∙_, subst}
+use mathlib.Core.Bool.{Bool, true, false, true≢false, false≢true}
+use mathlib.Core.List.{List, [], _∷_}
+use Prim.Native.Nat.{ℕ, _+_, _<_}
+use native.Mathlib.Decide.{ℕ-discrete}
+use native.Mathlib.Nat.{add-zero, zero-add}
+use native.Mathlib.Omega.{arith}
+use lib.ListN.{length, getD-replicate}
+use borrow.Author.Tests.{eq-eqb, ne-eqb}
+use Rattle.units.specs.declared.Cents.{Cents}
+use Rattle.units.specs.Tests.{pick, picked-of-both}
+use Rattle.units.specs.Sums.{sumTo, sum-zero, sum-same, sum-add, sum-none}
+use Rattle.book.specs.Book.{Book}
+use Rattle.book.specs.Sound.{SoundBook}
+use Rattle.book.specs.RecordSums.{quantityIn}
+use Rattle.book.specs.Trading.{ofTenant, filled, traded, tradeRecords, tradeWritten}
+use Rattle.book.specs.Opening.{bought, sold}
+use Rattle.entry.specs.declared.Entry.{Entry}
+use Rattle.entry.specs.declared.Quotes.{Quotes}
+use Rattle.entry.specs.declared.Settings.{Settings}
+use Rattle.entry.specs.declared.Terms.{Terms}
+use Rattle.entry.specs.Entry.{isBuy}
+use Rattle.checks.specs.TurnDown.{converts, asJudged}
+use Rattle.lanes.specs.declared.Served.the-variants.{Lane}
+use Rattle.lanes.specs.Ring.{tenants}
+use Rattle.lanes.specs.Rotation.{waits, served}
+use Rattle.lanes.specs.Runs.{countsFor}
+use Rattle.lanes.specs.RotationLaws.{served-first}
+use Rattle.tally.specs.declared.Tally.{Tally}
+use Rattle.tally.specs.Tallies as tallies
+use Rattle.tally.specs.Tallies.{plus, tallyAt, noTallies, added, onlyFor, counted, boughtInAll, soldInAll}
+use Rattle.tally.specs.TallyLaws.{added-length, added-at, plus-same, plus-none, plus-twice}
+use Rattle.session.specs.declared.Session.{Session}
+use Rattle.session.specs.Market.{Market, Called}
+use Rattle.session.specs.CreditLaws.{only-none, only-sum}
+use Rattle.session.specs.Settings.{settingsOf, awayOf}
+use Rattle.session.specs.Submit.{submitOf}
+use Rattle.session.specs.Opposite.{opposite}
+use Rattle.session.specs.Settle.{restingShare, talliesAfter}
+use Rattle.session.specs.Turn.{TurnDone, afterTaking, filledOf, restTurn, tradeTurn, turnOf}
+use Rattle.session.specs.Opening.{OpenDone, openQuiet, openAt, openOf}
+use Rattle.demands.specs.Runs.{Call, Answer, settings, away, submit, turn, opening, coded, turned, opened, step, after, laneIn, headEntry, resets, Start, Reached}
+use Rattle.demands.specs.Outcomes as outcomes
+use Rattle.demands.specs.Outcomes.{SetCame, CallCame, TakenCame, set-came, away-came, submit-came, turn-came, open-came}
+use Rattle.demands.specs.RunLaws.{reached-has}
+use Rattle.demands.specs.SoundnessProof.{Stands, start-stands, step-stands, reached-stands}
+use Rattle.demands.specs.Tallies.{inRecords, boughtIn, soldIn, turnsBy, boughtBy, soldBy, sumSince, Tallies}
+use Rattle.demands.specs.Told.{trade-told, trade-all, bought-told, sold-told, bought-all, sold-all}
+
+-- tallies after a call that counts so much for each tenant
+abbrev Adds : List Tally → List Tally → (ℕ → ℕ) → (ℕ → ℕ) → (ℕ → ℕ) → Type 0
+Adds xs ys turns bought sold = (u : ℕ) → u < tenants → tallyAt ys u ≡ plus (tallyAt xs u) (turns u) (bought u) (sold u)
+
+adds-none : (xs : List Tally) → Adds xs xs (λ u. 0) (λ u. 0) (λ u. 0)
+adds-none xs u h = sym (plus-none (tallyAt xs u))
+
+-- a turn of lane t, as the tallies count it
+counts-is : (t u : ℕ) → onlyFor t 1 u ≡ countsFor u (Lane t)
+counts-is t u = elim (ℕ-discrete u t) [
+  | yes e ↦ rw (eq-eqb u t e, eq-eqb t u (sym e))
+  | no n ↦ rw (ne-eqb u t n, ne-eqb t u (λ e. n (sym e)))
+]
+
+-- an order keeps its side when it is judged
+judged-side : (e : Entry) (q : Quotes) (t : Terms) → isBuy (asJudged e q t) ≡ isBuy e
+unfolding asJudged
+judged-side e q t = picked-of-both (λ (x : Entry). isBuy x ≡ isBuy e) (converts e q) _ _ refl refl
+
+-- the count of a taken turn
+taken-adds : (xs : List Tally) (t : ℕ) → length xs ≡ tenants → Adds xs (counted xs t 1 0 0) (λ u. countsFor u (Lane t)) (λ u. 0) (λ u. 0)
+taken-adds xs t long u h =
+    added-at (onlyFor t 1) (onlyFor t 0) (onlyFor t 0) xs u (rw long h) ∙ plus-same (tallyAt xs u) (counts-is t u) (only-none t u) (only-none t u)
+
+-- an order that trades, on market m
+module _ (m : Market) (t : ℕ) (was : List ℕ) (next : ℕ) (sound : SoundBook (m .book) next) (j : Entry) (bound : Cents) where
+  abbrev b : Book
+  b = m .book
+
+  abbrev a : ℕ
+  a = m .session .terms .allocation
+
+  abbrev f : ℕ
+  f = filled b (opposite j) (bound .0) (j .size .0)
+
+  abbrev resting : ℕ → ℕ
+  resting u = ofTenant b u (traded b (opposite j) (bound .0) (j .size .0) a)
+
+  -- what its records tell
+  abbrev told : ℕ → ℕ
+  told =
+      let w = tradeWritten b (opposite j) (bound .0) (j .size .0) a was in
+      inRecords w (quantityIn w) (tradeRecords b (opposite j) (bound .0) (j .size .0) a)
+
+  told-is : (u : ℕ) → resting u ≡ told u
+  told-is u = sym (trade-told b next sound (opposite j) (bound .0) (j .size .0) a was u)
+
+  told-all : sumTo told tenants ≡ f
+  told-all = sum-same tenants (λ u _. sym (told-is u)) ∙ trade-all b next sound (opposite j) (bound .0) (j .size .0) a was
+
+  -- one more addition to what counting the turn made
+  then : (xs ys : List Tally) → length xs ≡ tenants → ys ≡ counted xs t 1 0 0 → (g h : ℕ → ℕ) → Adds xs (added (λ u. 0) g h ys) (λ u. countsFor u (Lane t)) g h
+  then xs ys long e g h u l =
+      let same : length ys ≡ tenants = ap length e ∙ (added-length _ _ _ 0 xs ∙ long) in
+      added-at (λ u. 0) g h ys u (rw same l)
+      ∙ (ap (λ (x : Tally). plus x 0 (g u) (h u)) (ap (λ (x : List Tally). tallyAt x u) e ∙ taken-adds xs t long u l)
+      ∙ (plus-twice (tallyAt xs u) (countsFor u (Lane t)) 0 0 0 (g u) (h u) ∙ plus-same (tallyAt xs u) (add-zero _) (zero-add _) (zero-add _)))
+
+  sided-adds :
+      (xs ys : List Tally) → length xs ≡ tenants → ys ≡ counted xs t 1 0 0 → (x : Bool) →
+      Adds xs (pick x (added (λ u. 0) (onlyFor t f) resting ys) (added (λ u. 0) resting (onlyFor t f) ys)) (λ u. countsFor u (Lane t))
+      (λ u. pick x (onlyFor t f u) (told u)) (λ u. pick x (told u) (onlyFor t f u))
+  unfolding pick
+  sided-adds xs ys long e true u l = then xs ys long e (onlyFor t f) resting u l ∙ plus-same (tallyAt xs u) refl refl (told-is u)
+  sided-adds xs ys long e false u l = then xs ys long e resting (onlyFor t f) u l ∙ plus-same (tallyAt xs u) refl (told-is u) refl
+
+  traded-adds :
+      (xs ys : List Tally) → length xs ≡ tenants → ys ≡ counted xs t 1 0 0 → (x : Bool) → isBuy j ≡ x →
+      Adds xs (talliesAfter ys t j b (bound .0) a) (λ u. countsFor u (Lane t)) (λ u. pick x (onlyFor t f u) (told u)) (λ u. pick x (told u) (onlyFor t f u))
+  unfolding talliesAfter restingShare
+  traded-adds xs ys long e x is u l =
+      ap (λ y. tallyAt (pick y (added (λ u. 0) (onlyFor t f) resting ys) (added (λ u. 0) resting (onlyFor t f) ys)) u) is ∙ sided-adds xs ys long e x u l
+
+  -- its tenant gets what the resting tenants give, or the other way round
+  traded-even : t < tenants → (x : Bool) → sumTo (λ u. pick x (onlyFor t f u) (told u)) tenants ≡ sumTo (λ u. pick x (told u) (onlyFor t f u)) tenants
+  unfolding pick
+  traded-even h true = only-sum t f h ∙ sym told-all
+  traded-even h false = told-all ∙ sym (only-sum t f h)
+
+-- a call adds to the tallies what it says, and as much bought as sold
+record Counts (m next : Market) (a : Answer) (records : List ℕ) : Type 0 where
+  adds : Adds (m .session .tallies) (next .session .tallies) (λ u. countsFor u (laneIn a)) (boughtIn m a records) (soldIn m a records)
+  even : sumTo (boughtIn m a records) tenants ≡ sumTo (soldIn m a records) tenants
+
+abbrev TurnCounts : Market → TurnDone → Type 0
+TurnCounts m d = Counts m (d .market) (turned (d .answer)) (d .records)
+
+abbrev OpenCounts : Market → OpenDone → Type 0
+OpenCounts m d = Counts m (d .market) (opened (d .answer)) (d .records)
+
+-- settings refused, away and submit count nothing
+call-counts : (m next : Market) (d : Called) → next .session .tallies ≡ m .session .tallies → CallCame m next d → Counts m (d .market) (coded (d .code)) []
+call-counts m next d same came = record {
+  adds = λ u h. ap (λ (x : List Tally). tallyAt x u) (kept came) ∙ adds-none (m .session .tallies) u h;
+  even = refl;
+}
+  where
+    kept : CallCame m next d → d .market .session .tallies ≡ m .session .tallies
+    kept (outcomes.refused n h e) = ap (λ (x : Called). x .market .session .tallies) e
+    kept (outcomes.accepted e) = ap (λ (x : Called). x .market .session .tallies) e ∙ same
+
+set-counts : (m : Market) (given : Settings) (d : Called) → resets (settings given) (coded (d .code)) ≡ false → SetCame m given d → Counts m (d .market) (coded (d .code)) []
+set-counts m given d r (outcomes.refused e) = call-counts m m d refl (outcomes.refused 7 (omega arith) e)
+set-counts m given d r (outcomes.accepted g e) = absurd (true≢false (subst (λ (x : Called). resets (settings given) (coded (x .code)) ≡ false) e r))
+
+-- an order that rests at once has nothing filled and no record
+rest-none : (x : Bool) (t u : ℕ) (l : List ℕ) → pick x (onlyFor t 0 u) (inRecords l (quantityIn l) 0 u) ≡ 0
+rest-none x t u l = picked-of-both (λ k. k ≡ 0) x _ _ (only-none t u) (sum-zero _)
+
+rest-none-sold : (x : Bool) (t u : ℕ) (l : List ℕ) → pick x (inRecords l (quantityIn l) 0 u) (onlyFor t 0 u) ≡ 0
+rest-none-sold x t u l = picked-of-both (λ k. k ≡ 0) x _ _ (sum-zero _) (only-none t u)
+
+module _ (m : Market) (stands : Stands m) where
+  module _ (t : ℕ) (tenant : t < tenants) (set : m .session .accepted ≡ true) (was : List ℕ) (d : TurnDone) where
+    counted-once : Adds (m .session .tallies) (counted (m .session .tallies) t 1 0 0) (λ u. countsFor u (Lane t)) (λ u. 0) (λ u. 0)
+    counted-once = taken-adds (m .session .tallies) t (stands .shaped .tallies-long)
+
+    taken-counts : TakenCame m t was d → TurnCounts m d
+    unfolding afterTaking restTurn tradeTurn filledOf
+    taken-counts (outcomes.down code e) = subst (TurnCounts m) (sym e) (record { adds = counted-once; even = refl })
+    taken-counts (outcomes.cancelled row e) = subst (TurnCounts m) (sym e) (record { adds = counted-once; even = refl })
+    taken-counts (outcomes.rested j e) =
+        let side = isBuy (headEntry m t) in
+        subst (TurnCounts m) (sym e) (record {
+          adds = λ u h. counted-once u h ∙ plus-same (tallyAt (m .session .tallies) u) refl (sym (rest-none side t u was)) (sym (rest-none-sold side t u was));
+          even = sum-none tenants (λ u _. rest-none side t u was) ∙ sym (sum-none tenants (λ u _. rest-none-sold side t u was));
+        })
+    taken-counts (outcomes.traded j bound judged e) =
+        let side : isBuy j ≡ isBuy (headEntry m t) = ap isBuy judged ∙ judged-side (headEntry m t) _ _ in
+        let book = stands .sound set .ready .book in
+        subst (TurnCounts m) (sym e) (record {
+          adds = traded-adds m t was (m .session .next) book j bound (m .session .tallies) _ (stands .shaped .tallies-long) refl (isBuy (headEntry m t)) side;
+          even = traded-even m t was (m .session .next) book j bound tenant (isBuy (headEntry m t));
+        })
+
+  turn-counts : (lent : ℕ) (was : List ℕ) → TurnCounts m (turnOf m lent was)
+  unfolding served
+  turn-counts lent was = elim (turn-came m lent was) [
+    | outcomes.refused n e ↦ subst (TurnCounts m) (sym e) (record { adds = adds-none (m .session .tallies); even = refl })
+    | outcomes.took t set is came ↦
+        let first = served-first (waits (m .session .lanes)) (m .session .lanes .place) (stands .shaped .place) t .0 is in
+        taken-counts t (first .lane) set was (turnOf m lent was) came
+  ]
+
+  open-counts : (lent : ℕ) (was : List ℕ) → OpenCounts m (openOf m lent was)
+  unfolding openAt openQuiet
+  open-counts lent was = elim (open-came m lent was) [
+    | outcomes.refused n e ↦ subst (OpenCounts m) (sym e) (record { adds = adds-none (m .session .tallies); even = refl })
+    | outcomes.matched p set e ↦
+        let book = stands .sound set .ready .book in
+        let buys = bought-told (m .book) (m .session .next) book p was in
+        let sells = sold-told (m .book) (m .session .next) book p was in
+        subst (OpenCounts m) (sym e) (record {
+          adds = λ u h.
+              added-at _ _ _ (m .session .tallies) u (rw (stands .shaped .tallies-long) h)
+              ∙ plus-same (tallyAt (m .session .tallies) u) refl (sym (buys u)) (sym (sells u));
+          even =
+              sum-same tenants (λ u _. buys u)
+              ∙ (bought-all (m .book) (m .session .next) book p was
+              ∙ (sym (sold-all (m .book) (m .session .next) book p was) ∙ sym (sum-same tenants (λ u _. sells u))));
+        })
+    | outcomes.quiet set e ↦ subst (OpenCounts m) (sym e) (record {
+      adds = λ u h. adds-none (m .session .tallies) u h ∙ plus-same (tallyAt (m .session .tallies) u) refl (sym (sum-zero _)) (sym (sum-zero _));
+      even = sum-same tenants (λ u _. sum-zero _ ∙ sym (sum-zero _));
+    })
+  ]
+
+  step-counts : (c : Call) → resets c (step m c .answer) ≡ false → Counts m (step m c .market) (step m c .answer) (step m c .records)
+  step-counts (settings given) r = set-counts m given (settingsOf m given) r (set-came m given)
+  step-counts (away bid offer) r = call-counts m _ (awayOf m bid offer) refl (away-came m bid offer)
+  step-counts (submit tenant count ns) r = call-counts m _ (submitOf m tenant count ns) refl (submit-came m tenant count ns)
+  step-counts (turn lent was) r = turn-counts lent was
+  step-counts (opening lent was) r = open-counts lent was
+
+  -- an accepted settings empties the tallies
+  step-resets : (c : Call) → resets c (step m c .answer) ≡ true → step m c .market .session .tallies ≡ noTallies
+  step-resets (settings given) r = go (settingsOf m given) r (set-came m given)
+    where
+      go : (d : Called) → resets (settings given) (coded (d .code)) ≡ true → SetCame m given d → d .market .session .tallies ≡ noTallies
+      go d r (outcomes.refused e) = absurd (false≢true (subst (λ (x : Called). resets (settings given) (coded (x .code)) ≡ true) e r))
+      go d r (outcomes.accepted g e) = ap (λ (x : Called). x .market .session .tallies) e
+  step-resets (away bid offer) r = absurd (false≢true r)
+  step-resets (submit tenant count ns) r = absurd (false≢true r)
+  step-resets (turn lent was) r = absurd (false≢true r)
+  step-resets (opening lent was) r = absurd (false≢true r)
+
+no-tally : (u : ℕ) → u < tenants → tallyAt noTallies u ≡ tallies.zero
+no-tally u = getD-replicate {A = Tally} 9 u tallies.zero tallies.zero
+
+-- a number of the tallies, and what each call counts for it
+module _ (field : Tally → ℕ) (part : ℕ → Market → Call → ℕ) (nothing : field tallies.zero ≡ 0)
+    (is : (x : Tally) (u : ℕ) (m : Market) (c : Call) → field (plus x (turnsBy u m c) (boughtBy u m c) (soldBy u m c)) ≡ field x + part u m c) where
+  step-sums : (m : Market) → Stands m → (c : Call) (u : ℕ) → u < tenants → (x : Bool) → resets c (step m c .answer) ≡ x
+      → field (tallyAt (step m c .market .session .tallies) u) ≡ pick x 0 (field (tallyAt (m .session .tallies) u) + part u m c)
+  unfolding pick
+  step-sums m stands c u h true r = ap (λ (x : List Tally). field (tallyAt x u)) (step-resets m stands c r) ∙ (ap field (no-tally u h) ∙ nothing)
+  step-sums m stands c u h false r = ap field (step-counts m stands c r .adds u h) ∙ is (tallyAt (m .session .tallies) u) u m c
+
+  run-sums : (m : Market) → Stands m → (cs : List Call) (u : ℕ) → u < tenants → (n : ℕ) → field (tallyAt (m .session .tallies) u) ≡ n
+      → field (tallyAt (after m cs .session .tallies) u) ≡ sumSince (part u) n m cs
+  run-sums m stands [] u h n e = e
+  run-sums m stands (c ∷ cs) u h n e =
+      run-sums (step m c .market) (step-stands m c stands) cs u h _
+      (rw e at (step-sums m stands c u h (resets c (step m c .answer)) refl))
+
+  start-sums : (m : Market) → Start m → (cs : List Call) (u : ℕ) → u < tenants → field (tallyAt (after m cs .session .tallies) u) ≡ sumSince (part u) 0 m cs
+  start-sums m s cs u h =
+      run-sums m (start-stands m s) cs u h 0
+      (ap (λ (x : Session). field (tallyAt (x .tallies) u)) (s .new) ∙ (ap field (no-tally u h) ∙ nothing))
+
+-- as much bought as sold
+none-even : boughtInAll noTallies ≡ soldInAll noTallies
+none-even = sum-same tenants (λ u h. ap (λ (x : Tally). x .bought) (no-tally u h) ∙ sym (ap (λ (x : Tally). x .sold) (no-tally u h)))
+
+record Even (m : Market) : Type 0 where
+  stands : Stands m
+  same : boughtInAll (m .session .tallies) ≡ soldInAll (m .session .tallies)
+
+step-even : (m : Market) → Stands m → (c : Call) (x : Bool) → resets c (step m c .answer) ≡ x
+    → boughtInAll (m .session .tallies) ≡ soldInAll (m .session .tallies) → boughtInAll (step m c .market .session .tallies) ≡ soldInAll (step m c .market .session .tallies)
+step-even m stands c true r e = rw (step-resets m stands c r) none-even
+step-even m stands c false r e =
+    let counts = step-counts m stands c r in
+    let xs = m .session .tallies in
+    sum-add (λ u. tallyAt xs u .bought) (λ u. boughtBy u m c) tenants (λ u h. ap (λ (x : Tally). x .bought) (counts .adds u h))
+    ∙ (ap₂ _+_ e (counts .even)
+    ∙ sym (sum-add (λ u. tallyAt xs u .sold) (λ u. soldBy u m c) tenants (λ u h. ap (λ (x : Tally). x .sold) (counts .adds u h))))
+
+reached-even : (m : Market) → Reached m → boughtInAll (m .session .tallies) ≡ soldInAll (m .session .tallies)
+reached-even m r = reached-has Even (λ m c e. record { stands = step-stands m c (e .stands); same = step-even m (e .stands) c _ refl (e .same) }) start-even m r .same
+  where
+    start-even : (m : Market) → Start m → Even m
+    start-even m s = record { stands = start-stands m s; same = rw (s .new) none-even }
+
+call-even : (m : Market) → Stands m → (c : Call) → sumTo (λ u. boughtBy u m c) tenants ≡ sumTo (λ u. soldBy u m c) tenants
+call-even m stands (settings given) = refl
+call-even m stands (away bid offer) = refl
+call-even m stands (submit tenant count ns) = refl
+call-even m stands (turn lent was) = turn-counts m stands lent was .even
+call-even m stands (opening lent was) = open-counts m stands lent was .even
+
+pub tallies-told : Tallies
+tallies-told = record {
+  turns = start-sums (λ x. x .turns) turnsBy refl (λ x u m c. refl);
+  bought = start-sums (λ x. x .bought) boughtBy refl (λ x u m c. refl);
+  sold = start-sums (λ x. x .sold) soldBy refl (λ x u m c. refl);
+  each-call = λ m r. call-even m (reached-stands m r);
+  in-all = reached-even;
+}
