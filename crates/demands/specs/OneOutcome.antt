@@ -19,18 +19,21 @@ use Rattle.units.specs.Units.{cents}
 use Rattle.tally.specs.declared.Tally.{Tally}
 use Rattle.tally.specs.Tallies.{plus}
 use Rattle.tally.proofs.add as tally-add
-use Rattle.book.specs.Book.{Book, emptyBook}
+use Rattle.book.specs.Book.{Book, bookOf, emptyBook}
 use Rattle.session.specs.declared.Answered.{Answered}
 use Rattle.session.specs.declared.Opened.{Opened}
 use Rattle.session.specs.declared.Turned.{Turned}
 use Rattle.session.specs.declared.OpenAnswer.{OpenAnswer}
 use Rattle.session.specs.declared.TurnAnswer.{TurnAnswer}
-use Rattle.session.specs.Market.{Market, Called}
+use Rattle.session.specs.Market.{Market, Called, marketOf}
 use Rattle.session.specs.Opening.{OpenDone}
 use Rattle.session.specs.Turn.{TurnDone}
 use Rattle.fills.specs.declared.Fill.{Fill}
 use Rattle.fills.specs.Calls.{Stored, turnStored, turnWith, openStored, openWith}
+use Rattle.fills.proofs.open as fills-open
+use Rattle.fills.proofs.turn as fills-turn
 use Rattle.fills.proofs.turn_fills.Reads as fills-turn-fills
+use Rattle.session.specs.Sound.{Sound}
 use Rattle.replay.proofs.events.event.Reads as replay-event
 use Rattle.replay.proofs.stepping.step.Reads as replay-step
 use Rattle.margin.specs.MarginLaws.{margin-one}
@@ -513,7 +516,34 @@ one-session-open κs a z z′ e e′ p q =
 pub one-fills-turn-fills : OneResult fills-turn-fills.Post
 one-fills-turn-fills κs a z z′ e e′ = same
 
--- `turn` and `open` with a row of fills stand outside the covered forms; these are the equations of their contracts
+-- `turn` with a row of fills stands outside the covered forms, so its promise is read from its contract's clauses
+pub fills-turn-promise : {M : Type 1} (𝓤 : URA.URA M) (H : Wp.Heap 𝓤) (A : Atoms.Atoms 𝓤) (mem : Memory.Memory → Logic.SProp 𝓤) (run : Routine.Routine → Monad.Fun 𝓤)
+    (κs : Lifetimes.Lfts 7) (a : World.ArgsD fills-turn.signature κs) (z : World.ResD fills-turn.signature κs) (e : Clauses.AtExit fills-turn.ended κs)
+    → fills-turn.clauses 𝓤 H A mem run κs a .ensures tt z e
+    ≡ (Notation.connectives 𝓤) ._∗_
+    ((Notation.connectives 𝓤) .⌜_⌝ (
+    turnStored z (bookOf (e .1 .0 .now) (e .1 .1 .0 .now) (e .1 .1 .1 .0 .now) (e .1 .1 .1 .1 .0 .now) (e .1 .1 .1 .1 .1 .0 .now)) (a .1 .1 .1 .1 .1 .1 .0 .now) (e .1 .1 .1 .1 .1 .1 .1 .0 .now)
+    ≡ turnWith (marketOf (a .0) (bookOf (a .1 .0 .now) (a .1 .1 .0 .now) (a .1 .1 .1 .0 .now) (a .1 .1 .1 .1 .0 .now) (a .1 .1 .1 .1 .1 .0 .now)) (a .1 .1 .1 .1 .1 .1 .0 .now)) (a .1 .1 .1 .1 .1 .1 .1 .0 .now)))
+    ((Notation.connectives 𝓤) .⌜_⌝ (
+    Sound (marketOf (z .session) (bookOf (e .1 .0 .now) (e .1 .1 .0 .now) (e .1 .1 .1 .0 .now) (e .1 .1 .1 .1 .0 .now) (e .1 .1 .1 .1 .1 .0 .now)) (a .1 .1 .1 .1 .1 .1 .0 .now))))
+fills-turn-promise 𝓤 H A mem run κs a z e = refl
+
+-- and so is `open`'s
+pub fills-open-promise : {M : Type 1} (𝓤 : URA.URA M) (H : Wp.Heap 𝓤) (A : Atoms.Atoms 𝓤) (mem : Memory.Memory → Logic.SProp 𝓤) (run : Routine.Routine → Monad.Fun 𝓤)
+    (κs : Lifetimes.Lfts 6) (a : World.ArgsD fills-open.signature κs) (z : World.ResD fills-open.signature κs) (e : Clauses.AtExit fills-open.ended κs)
+    → fills-open.clauses 𝓤 H A mem run κs a .ensures tt z e
+    ≡ (Notation.connectives 𝓤) ._∗_
+    ((Notation.connectives 𝓤) .⌜_⌝ (
+    (entries : List ℕ) →
+    openStored z (bookOf (a .1 .0 .now) (a .1 .1 .0 .now) (e .1 .1 .1 .0 .now) (a .1 .1 .1 .1 .0 .now) (a .1 .1 .1 .1 .1 .0 .now)) entries (e .1 .1 .1 .1 .1 .1 .0 .now)
+    ≡ openWith (marketOf (a .0) (bookOf (a .1 .0 .now) (a .1 .1 .0 .now) (a .1 .1 .1 .0 .now) (a .1 .1 .1 .1 .0 .now) (a .1 .1 .1 .1 .1 .0 .now)) entries) (a .1 .1 .1 .1 .1 .1 .0 .now)))
+    ((Notation.connectives 𝓤) .⌜_⌝ (
+    (entries : List ℕ) →
+    Sound (marketOf (a .0) (bookOf (a .1 .0 .now) (a .1 .1 .0 .now) (a .1 .1 .1 .0 .now) (a .1 .1 .1 .1 .0 .now) (a .1 .1 .1 .1 .1 .0 .now)) entries) →
+    Sound (marketOf (z .session) (bookOf (a .1 .0 .now) (a .1 .1 .0 .now) (e .1 .1 .1 .0 .now) (a .1 .1 .1 .1 .0 .now) (a .1 .1 .1 .1 .1 .0 .now)) entries)))
+fills-open-promise 𝓤 H A mem run κs a z e = refl
+
+-- each of these equations is met by one outcome
 pub one-fills-turn :
     (m : Market) (row : List Fill) (r r′ : Turned) (b b′ : Book) (entries entries′ : List ℕ) (left left′ : List Fill) →
     turnStored r b entries left ≡ turnWith m row → turnStored r′ b′ entries′ left′ ≡ turnWith m row →
