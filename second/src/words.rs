@@ -1,7 +1,8 @@
 //! A tape in words, one event a line, and back again.
 //!
 //! `show` puts every event that can be read into words and the rest of the
-//! bytes on a `raw` line; `make` turns such words into the same bytes.
+//! bytes on a `raw` line; `show_places` adds where on the tape each line
+//! starts; `make` turns such words into the same bytes.
 
 use std::fmt::Write;
 
@@ -31,21 +32,30 @@ const LIVES: [&str; 2] = ["day", "now"];
 
 /// The words of a tape, a `raw` line for what cannot be read.
 pub fn show(tape: &[u8]) -> String {
+    show_with(tape, |_| String::new())
+}
+
+/// The same words, each line with a remark on the place of its first byte.
+pub fn show_places(tape: &[u8]) -> String {
+    show_with(tape, |place| format!(" # byte {place}"))
+}
+
+/// The words of a tape, each line ended by what `remark` says of its place.
+fn show_with(tape: &[u8], remark: impl Fn(usize) -> String) -> String {
     let mut words = String::new();
     let mut reader = Reader::new(tape);
     loop {
         let start = reader.place();
-        match reader.event() {
-            Ok(Some(event)) => {
-                words.push_str(&event_words(&event));
-                words.push('\n');
-            }
+        let event = reader.event();
+        let line = match &event {
+            Ok(Some(event)) => event_words(event),
             Ok(None) => return words,
-            Err(_) => {
-                words.push_str(&raw_words(&tape[start..]));
-                words.push('\n');
-                return words;
-            }
+            Err(_) => raw_words(&tape[start..]),
+        };
+        // Writing to a string never fails.
+        let _ = writeln!(words, "{line}{}", remark(start));
+        if event.is_err() {
+            return words;
         }
     }
 }
@@ -259,6 +269,20 @@ raw 03 02 15
         let tape = make(words).unwrap();
         assert_eq!(show(&tape), words);
         assert_eq!(make(&show(&tape)), Ok(tape));
+    }
+
+    #[test]
+    fn places_are_counted_in_bytes_from_0() {
+        let words = "\
+away bid 300 offer 0 # byte 0
+turn # byte 4
+submit tenant 2: buy day 5 at 100 # byte 5
+open # byte 14
+raw 00 04 # byte 15
+";
+        let tape = make(words).unwrap();
+        assert_eq!(show_places(&tape), words);
+        assert_eq!(show_places(&[]), "");
     }
 
     #[test]

@@ -29,7 +29,8 @@ pub enum Task {
         files: Vec<PathBuf>,
     },
     Show {
-        file: PathBuf,
+        file: Option<PathBuf>,
+        places: bool,
     },
     Make {
         file: Option<PathBuf>,
@@ -52,12 +53,14 @@ tapes --report FILES..
     replays tapes and prints how often each outcome is reached, with a line
     `missing: NAME` for each one not reached; exit status 1 if any is missing
     (19 and 35 are left out: each needs more than four thousand million turns)
-tapes --show FILE
+tapes --show [FILE] [--places]
     prints a tape in words, one event a line, and `raw` bytes from the first
-    event that cannot be read
+    event that cannot be read; with --places each line ends in a remark on
+    the place of its first byte, counted from 0, as `# byte 36`
 tapes --make [FILE] [--out FILE]
-    turns such words, from standard input without FILE, into a tape; `#`
-    starts a remark, and `turn times N` stands for N turns
+    turns such words into a tape; `#` starts a remark, and `turn times N`
+    stands for N turns; wrong words are told with their line
+    (--show and --make read standard input without FILE or with `-`)
 tapes --compare DIR DIR
     compares the files of two folders by name and prints the first line that
     differs of each; the last line is `N passed, M failed`, and the exit
@@ -73,10 +76,12 @@ pub fn help() -> String {
     text
 }
 
-/// The options as given, each at most once, and the names of files.
+/// The options as given, each at most once, whether places are asked for, and
+/// the names of files.
 #[derive(Default)]
 struct Given<'a> {
     options: Vec<(&'a str, &'a OsStr)>,
+    places: bool,
     files: Vec<PathBuf>,
 }
 
@@ -103,6 +108,7 @@ impl<'a> Given<'a> {
                     let value = rest.next().ok_or(format!("{word} takes a value"))?;
                     given.options.push((word, value));
                 }
+                Some("--places") => given.places = true,
                 Some(word) if word.starts_with("--") => {
                     return Err(format!("{word} is not understood; see --help"));
                 }
@@ -149,6 +155,15 @@ impl<'a> Given<'a> {
         }
     }
 
+    /// The file to read; none for standard input.
+    fn input(&self) -> Result<Option<PathBuf>, String> {
+        match self.files.as_slice() {
+            [] => Ok(None),
+            [file] => Ok(Some(file.clone()).filter(|file| file.as_os_str() != "-")),
+            _ => Err("one file at most; see --help".to_string()),
+        }
+    }
+
     fn dir(&self) -> Result<PathBuf, String> {
         self.path("--dir").ok_or("--dir is due".to_string())
     }
@@ -159,14 +174,16 @@ pub fn parse(arguments: &[OsString]) -> Result<Task, String> {
     let (mode, given) = Given::read(arguments)?;
     match mode {
         Some("--help") => Ok(Task::Help),
+        Some("--show") => Ok(Task::Show {
+            file: given.input()?,
+            places: given.places,
+        }),
+        _ if given.places => Err("--places goes with --show; see --help".to_string()),
         Some("--cuts") => Ok(Task::Cuts {
             file: given.only_file()?,
             dir: given.dir()?,
         }),
         Some("--report") => Ok(Task::Report { files: given.files }),
-        Some("--show") => Ok(Task::Show {
-            file: given.only_file()?,
-        }),
         Some("--compare") => match given.files.as_slice() {
             [one, other] => Ok(Task::Compare {
                 one: one.clone(),
@@ -175,7 +192,7 @@ pub fn parse(arguments: &[OsString]) -> Result<Task, String> {
             _ => Err("two folders are due; see --help".to_string()),
         },
         Some(_) => Ok(Task::Make {
-            file: given.files.first().cloned(),
+            file: given.input()?,
             out: given.path("--out"),
         }),
         None => parse_writing(&given),

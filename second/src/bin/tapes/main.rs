@@ -52,7 +52,7 @@ fn run(task: Task) -> Result<bool, String> {
             dir,
         } => write_many(count, seed, only, events, &dir)?,
         Task::Cuts { file, dir } => write_cuts(&file, &dir)?,
-        Task::Show { file } => put(None, words::show(&read(Some(&file))?).as_bytes())?,
+        Task::Show { file, places } => show_tape(file.as_deref(), places)?,
         Task::Make { file, out } => make_tape(file.as_deref(), out.as_deref())?,
         Task::Report { files } => return report_on(&files),
         Task::Compare { one, other } => return compare_folders(&one, &other),
@@ -98,6 +98,15 @@ fn write_cuts(file: &Path, dir: &Path) -> Result<(), String> {
         put(Some(&cut), &tape[..length])?;
     }
     Ok(())
+}
+
+fn show_tape(file: Option<&Path>, places: bool) -> Result<(), String> {
+    let show = if places {
+        words::show_places
+    } else {
+        words::show
+    };
+    put(None, show(&read(file)?).as_bytes())
 }
 
 fn make_tape(file: Option<&Path>, out: Option<&Path>) -> Result<(), String> {

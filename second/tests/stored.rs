@@ -1,0 +1,39 @@
+//! The stored tapes, in words and back.
+
+use std::fs;
+use std::path::{Path, PathBuf};
+
+use second::words::{make, show_places};
+
+/// The stored tapes.
+fn tapes() -> Vec<PathBuf> {
+    let folder = Path::new(env!("CARGO_MANIFEST_DIR")).join("../tests/tapes");
+    let files = fs::read_dir(&folder).expect("a folder of stored tapes");
+    let tapes: Vec<PathBuf> = files
+        .map(|file| file.expect("a file of the folder").path())
+        .filter(|file| file.extension().is_some_and(|kind| kind == "tape"))
+        .collect();
+    assert!(!tapes.is_empty(), "no tape in {}", folder.display());
+    tapes
+}
+
+#[test]
+fn every_stored_tape_is_shown_with_places_and_made_again() {
+    for file in tapes() {
+        let tape = fs::read(&file).expect("a stored tape");
+        assert_eq!(make(&show_places(&tape)), Ok(tape), "{}", file.display());
+    }
+}
+
+#[test]
+fn every_place_is_the_count_of_the_bytes_before() {
+    for file in tapes() {
+        let tape = fs::read(&file).expect("a stored tape");
+        let mut place = 0;
+        for line in show_places(&tape).lines() {
+            let remark = format!(" # byte {place}");
+            assert!(line.ends_with(&remark), "{}: {line}", file.display());
+            place += make(line).expect("the words of a line").len();
+        }
+    }
+}
