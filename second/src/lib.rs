@@ -6,6 +6,7 @@
 //! each lane is a queue of entries.
 
 pub mod book;
+pub mod ending;
 pub mod entry;
 pub mod judging;
 pub mod opening;

@@ -4,20 +4,17 @@ use std::ffi::OsString;
 use std::io::{self, BufWriter, Read, Write};
 use std::process::ExitCode;
 
+use second::ending::Trouble;
 use second::tape::run;
 
 const TAPE_REFUSED: u8 = 1;
-const UNREADABLE: u8 = 2;
 
 fn main() -> ExitCode {
     let arguments: Vec<OsString> = std::env::args_os().skip(1).collect();
-    match read_tape(&arguments).and_then(|tape| answer(&tape)) {
+    match answer(&arguments) {
         Ok(true) => ExitCode::SUCCESS,
         Ok(false) => ExitCode::from(TAPE_REFUSED),
-        Err(reason) => {
-            eprintln!("second: {reason}");
-            ExitCode::from(UNREADABLE)
-        }
+        Err(trouble) => trouble.end("second"),
     }
 }
 
@@ -36,10 +33,11 @@ fn read_tape(arguments: &[OsString]) -> Result<Vec<u8>, String> {
     }
 }
 
-/// Prints the lines of the tape; tells whether it came to its end.
-fn answer(tape: &[u8]) -> Result<bool, String> {
+/// Prints the lines of the tape asked for; tells whether it came to its end.
+fn answer(arguments: &[OsString]) -> Result<bool, Trouble> {
+    let tape = read_tape(arguments)?;
     let mut out = BufWriter::with_capacity(1 << 16, io::stdout().lock());
-    run(tape, &mut out)
+    run(&tape, &mut out)
         .and_then(|ended| out.flush().map(|()| ended))
-        .map_err(|error| format!("standard output cannot be written: {error}"))
+        .map_err(|error| Trouble::writing("standard output", &error))
 }

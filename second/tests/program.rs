@@ -1,10 +1,17 @@
 //! The programs as they are started: input, output and exit status.
 
-use std::io::Write;
+use std::io::{pipe, PipeWriter, Read, Write};
 use std::process::{Command, Output, Stdio};
 
 const SECOND: &str = env!("CARGO_BIN_EXE_second");
 const TAPES: &str = env!("CARGO_BIN_EXE_tapes");
+
+/// Where the stored tapes lie, and one with more lines than a pipe holds.
+const STORED: &str = concat!(env!("CARGO_MANIFEST_DIR"), "/../tests/tapes");
+const LONG: &str = concat!(
+    env!("CARGO_MANIFEST_DIR"),
+    "/../tests/tapes/long-mixed-day.tape"
+);
 
 fn start(program: &str, arguments: &[&str], input: &[u8]) -> Output {
     let mut program = Command::new(program)
@@ -89,4 +96,72 @@ fn places_without_show_are_not_understood() {
     let output = start(TAPES, &["--make", "--places"], b"turn\n");
     assert!(output.stdout.is_empty());
     assert_eq!(output.status.code(), Some(2));
+}
+
+/// A pipe that nobody reads.
+fn closed_pipe() -> PipeWriter {
+    let (reader, writer) = pipe().expect("a pipe");
+    drop(reader);
+    writer
+}
+
+fn start_into_closed_pipe(program: &str, arguments: &[&str]) -> Output {
+    Command::new(program)
+        .args(arguments)
+        .stdin(Stdio::null())
+        .stdout(closed_pipe())
+        .stderr(Stdio::piped())
+        .output()
+        .expect("the program starts")
+}
+
+#[test]
+fn a_pipe_closed_early_is_no_complaint_in_any_mode() {
+    let words = format!("{STORED}/worked-example.words");
+    let starts: [(&str, &[&str]); 9] = [
+        (SECOND, &[]),
+        (SECOND, &[LONG]),
+        (TAPES, &["--help"]),
+        (TAPES, &["--seed", "1", "--events", "50000"]),
+        (TAPES, &["--report", LONG]),
+        (TAPES, &["--show", LONG]),
+        (TAPES, &["--show", "--places", LONG]),
+        (TAPES, &["--make", &words]),
+        (TAPES, &["--compare", STORED, STORED]),
+    ];
+    for (program, arguments) in starts {
+        let output = start_into_closed_pipe(program, arguments);
+        assert_eq!(output.status.code(), Some(141), "{program} {arguments:?}");
+        assert_eq!(String::from_utf8_lossy(&output.stderr), "");
+    }
+}
+
+#[test]
+fn a_pipe_closed_after_some_lines_is_no_complaint() {
+    for (program, arguments) in [(SECOND, &[LONG][..]), (TAPES, &["--show", LONG])] {
+        let mut program = Command::new(program)
+            .args(arguments)
+            .stdout(Stdio::piped())
+            .stderr(Stdio::piped())
+            .spawn()
+            .expect("the program starts");
+        let mut lines = program.stdout.take().expect("a piped output");
+        lines.read_exact(&mut [0; 100]).expect("the first lines");
+        drop(lines);
+        let output = program.wait_with_output().expect("the program ends");
+        assert_eq!(output.status.code(), Some(141));
+        assert_eq!(String::from_utf8_lossy(&output.stderr), "");
+    }
+}
+
+#[test]
+fn a_complaint_that_nobody_reads_ends_with_status_2() {
+    for (program, arguments) in [(SECOND, &["no-such.tape"][..]), (TAPES, &["--seed"])] {
+        let status = Command::new(program)
+            .args(arguments)
+            .stderr(closed_pipe())
+            .status()
+            .expect("the program starts");
+        assert_eq!(status.code(), Some(2));
+    }
 }

@@ -17,25 +17,21 @@ use std::process::ExitCode;
 
 use arguments::{help, parse, Task};
 use flavours::{round, Flavour};
+use second::ending::Trouble;
 use second::words;
-
-const FAILED: u8 = 2;
 
 fn main() -> ExitCode {
     let arguments: Vec<OsString> = std::env::args_os().skip(1).collect();
-    match parse(&arguments).and_then(run) {
+    match parse(&arguments).map_err(Trouble::from).and_then(run) {
         Ok(true) => ExitCode::SUCCESS,
         Ok(false) => ExitCode::FAILURE,
-        Err(reason) => {
-            eprintln!("tapes: {reason}");
-            ExitCode::from(FAILED)
-        }
+        Err(trouble) => trouble.end("tapes"),
     }
 }
 
 /// Does the task; false only where a report finds an outcome missing or a
 /// comparison finds a difference.
-fn run(task: Task) -> Result<bool, String> {
+fn run(task: Task) -> Result<bool, Trouble> {
     match task {
         Task::Help => put(None, help().as_bytes())?,
         Task::Write {
@@ -65,12 +61,12 @@ fn write_tape(
     seed: u64,
     events: Option<u64>,
     out: Option<&Path>,
-) -> Result<(), String> {
+) -> Result<(), Trouble> {
     let mut out = open_out(out)?;
     flavour
         .write(&mut out, seed, events)
         .and_then(|()| out.flush())
-        .map_err(|error| format!("the tape cannot be written: {error}"))
+        .map_err(|error| Trouble::writing("the tape", &error))
 }
 
 fn write_many(
@@ -79,7 +75,7 @@ fn write_many(
     only: Option<&'static Flavour>,
     events: Option<u64>,
     dir: &Path,
-) -> Result<(), String> {
+) -> Result<(), Trouble> {
     make_dir(dir)?;
     for (flavour, seed) in round(count, seed, only) {
         let file = dir.join(format!("{}-{seed}.tape", flavour.name));
@@ -89,7 +85,7 @@ fn write_many(
 }
 
 /// Every truncation of a tape, named by its length.
-fn write_cuts(file: &Path, dir: &Path) -> Result<(), String> {
+fn write_cuts(file: &Path, dir: &Path) -> Result<(), Trouble> {
     make_dir(dir)?;
     let tape = read(Some(file))?;
     let name = file.file_stem().unwrap_or_default().to_string_lossy();
@@ -100,7 +96,7 @@ fn write_cuts(file: &Path, dir: &Path) -> Result<(), String> {
     Ok(())
 }
 
-fn show_tape(file: Option<&Path>, places: bool) -> Result<(), String> {
+fn show_tape(file: Option<&Path>, places: bool) -> Result<(), Trouble> {
     let show = if places {
         words::show_places
     } else {
@@ -109,13 +105,13 @@ fn show_tape(file: Option<&Path>, places: bool) -> Result<(), String> {
     put(None, show(&read(file)?).as_bytes())
 }
 
-fn make_tape(file: Option<&Path>, out: Option<&Path>) -> Result<(), String> {
+fn make_tape(file: Option<&Path>, out: Option<&Path>) -> Result<(), Trouble> {
     let given = read(file)?;
     let text = std::str::from_utf8(&given).map_err(|_| "the words are no text".to_string())?;
     put(out, &words::make(text)?)
 }
 
-fn report_on(files: &[PathBuf]) -> Result<bool, String> {
+fn report_on(files: &[PathBuf]) -> Result<bool, Trouble> {
     let mut report = report::Report::default();
     for file in files {
         report.replay(&read(Some(file))?);
@@ -125,7 +121,7 @@ fn report_on(files: &[PathBuf]) -> Result<bool, String> {
     Ok(complete)
 }
 
-fn compare_folders(one: &Path, other: &Path) -> Result<bool, String> {
+fn compare_folders(one: &Path, other: &Path) -> Result<bool, Trouble> {
     let comparison = compare::compare(one, other)?;
     let mut told = comparison.told;
     told.push(format!(
@@ -166,9 +162,9 @@ fn open_out(out: Option<&Path>) -> Result<BufWriter<Box<dyn Write>>, String> {
     Ok(BufWriter::with_capacity(1 << 16, inner))
 }
 
-fn put(out: Option<&Path>, bytes: &[u8]) -> Result<(), String> {
+fn put(out: Option<&Path>, bytes: &[u8]) -> Result<(), Trouble> {
     let mut out = open_out(out)?;
     out.write_all(bytes)
         .and_then(|()| out.flush())
-        .map_err(|error| format!("the output cannot be written: {error}"))
+        .map_err(|error| Trouble::writing("the output", &error))
 }
