@@ -50,9 +50,11 @@ const NUMBERS: [Wrong; 5] = [
     Wrong::FifthHigh,
 ];
 
+/// Numbers well spelt that are no event or no count. The event numbers 6 to
+/// 13 are not among them: document 02 gives them a meaning.
 const OTHERS: [(Where, Wrong); 8] = [
     (Where::Event, Wrong::Other(0)),
-    (Where::Event, Wrong::Other(6)),
+    (Where::Event, Wrong::Other(14)),
     (Where::Event, Wrong::Other(133)),
     (Where::Event, Wrong::Other(u32::MAX)),
     (Where::Count, Wrong::Other(0)),
@@ -176,4 +178,18 @@ pub fn bytes(pen: &mut Pen) -> io::Result<()> {
         pen.bytes(&[u8::try_from(byte).unwrap_or(0)])?;
     }
     Ok(())
+}
+
+#[cfg(test)]
+mod tests {
+    use super::*;
+
+    #[test]
+    fn unknown_event_numbers_are_those_that_stay_unknown() {
+        for damage in damages() {
+            if let (Where::Event, Wrong::Other(number)) = damage {
+                assert!(number == 0 || number > 13, "{number}");
+            }
+        }
+    }
 }

@@ -18,8 +18,8 @@ const OTHERS: [&str; 9] = [
     "end",
     "end of an empty tape",
     "tape 33 event 0",
-    "tape 33 event 6",
-    "tape 33 event above 6",
+    "tape 33 event 14",
+    "tape 33 event above 14",
     "tape 34 count 0",
     "tape 34 count 21",
     "tape 34 count above 21",
@@ -50,17 +50,24 @@ pub fn names() -> Vec<String> {
 pub fn witness(counts: &mut Counts, tape: &[u8], start: usize, refused: Refused) {
     let given = read_number(tape, refused.place).map_or(0, |(number, _)| number);
     match refused.refusal {
-        TapeRefusal::Event => counts.add(match given {
-            0 => "tape 33 event 0",
-            6 => "tape 33 event 6",
-            _ => "tape 33 event above 6",
-        }),
+        TapeRefusal::Event => unknown_event(counts, given),
         TapeRefusal::Count => counts.add(match given {
             0 => "tape 34 count 0",
             21 => "tape 34 count 21",
             _ => "tape 34 count above 21",
         }),
         _ => bad_number(counts, tape, start, refused),
+    }
+}
+
+/// Only numbers that stay unknown are outcomes to reach: document 02 gives 6
+/// to 13 a meaning, so that those which come by chance are not counted.
+fn unknown_event(counts: &mut Counts, given: u32) {
+    match given {
+        0 => counts.add("tape 33 event 0"),
+        14 => counts.add("tape 33 event 14"),
+        15.. => counts.add("tape 33 event above 14"),
+        1..=13 => {}
     }
 }
 
