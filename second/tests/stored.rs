@@ -18,6 +18,17 @@ fn tapes() -> Vec<PathBuf> {
 }
 
 #[test]
+fn every_stored_tape_has_words_that_make_its_bytes() {
+    for file in tapes() {
+        let tape = fs::read(&file).expect("a stored tape");
+        let words = fs::read_to_string(file.with_extension("words"));
+        let words =
+            words.unwrap_or_else(|error| panic!("the words of {}: {error}", file.display()));
+        assert_eq!(make(&words), Ok(tape), "{}", file.display());
+    }
+}
+
+#[test]
 fn every_stored_tape_is_shown_with_places_and_made_again() {
     for file in tapes() {
         let tape = fs::read(&file).expect("a stored tape");
