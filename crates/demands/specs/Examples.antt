@@ -12,7 +12,7 @@ use Rattle.units.specs.Picked.{same, lower, precedes}
 use Rattle.units.specs.Firsts.{firstTo}
 use Rattle.units.specs.Leasts.{leastTo, greatestTo}
 use Rattle.units.specs.Places.{table}
-use Rattle.number.specs.Examples.{E12, e12 as numbers-read}
+use Rattle.numeral.specs.Examples.{E12, e12 as numbers-read}
 use Rattle.rows.specs.Rows.{keyOf, within, openSize, buyPrice, sellPrice, restsFor}
 use Rattle.rows.specs.Passes.{highestBuy, lowestSell, standing, restingRows}
 use Rattle.book.specs.Book.{Book, bestOffer, crosses}

@@ -56,8 +56,8 @@ use Rattle.units.proofs.grid.Grid.of.Reads as units-of
 use Rattle.units.proofs.grid.Grid.lowest.Reads as units-lowest
 use Rattle.units.proofs.grid.Grid.step.Reads as units-step
 use Rattle.units.proofs.grid.Grid.on.Reads as units-on
-use Rattle.number.proofs.read.Reads as number-read
-use Rattle.number.proofs.refusal.Reads as number-refusal
+use Rattle.numeral.proofs.read.Reads as number-read
+use Rattle.numeral.proofs.refusal.Reads as number-refusal
 use Rattle.lines.proofs.line.set_line.Reads as lines-set-line
 use Rattle.lines.proofs.line.away_line.Reads as lines-away-line
 use Rattle.lines.proofs.line.submit_line.Reads as lines-submit-line

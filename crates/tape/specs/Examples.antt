@@ -4,7 +4,7 @@ use mathlib.Core.List.{List, [], _∷_}
 use Prim.Native.Nat.{ℕ}
 use Rattle.units.specs.Tests.{_and_}
 use Rattle.entry.specs.Numbers.{from1to}
-use Rattle.number.specs.Number.{numberIn, numberAt}
+use Rattle.numeral.specs.Number.{numberIn, numberAt}
 use Rattle.tape.specs.declared.Event.the-variants.{Settings, Submit, Turn, Open}
 use Rattle.tape.specs.declared.Reading.the-variants.{Read, Refused, End}
 use Rattle.tape.specs.Tape.{numbers, settings, away, entries, submit, formOf, event, reading, eventAt, numbersAt, entriesOf, stored, entriesAfter, settingsOf}

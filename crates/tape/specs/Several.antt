@@ -7,10 +7,10 @@ use native.Mathlib.Numerals.{add-one}
 use native.Mathlib.Omega.{arith}
 use lib.ListN.{length, take, drop, set, take-append-drop, drop-of-length-le}
 use lib.Seq.{drop-cons, take-suc-set, drop-set-lt, take-all, append-snoc}
-use Rattle.number.specs.declared.Number.{Number}
-use Rattle.number.specs.declared.Number.the-variants as number
-use Rattle.number.specs.Number.{numberAt, refusalOf}
-use Rattle.number.specs.Window.{answer, is-read, is-refused}
+use Rattle.numeral.specs.declared.Number.{Number}
+use Rattle.numeral.specs.declared.Number.the-variants as number
+use Rattle.numeral.specs.Number.{numberAt, refusalOf}
+use Rattle.numeral.specs.Window.{answer, is-read, is-refused}
 use Rattle.tape.specs.declared.Event.{Event}
 use Rattle.tape.specs.declared.Reading.{Reading}
 use Rattle.tape.specs.declared.Reading.the-variants.{Read, Refused}

@@ -9,10 +9,10 @@ use lib.ListN.{length, getD, take, drop, length-append}
 use lib.Seq.{take-at}
 use Rattle.units.specs.Units.{cents}
 use Rattle.units.specs.Places.{table, table-is}
-use Rattle.number.specs.Number.{numberAt}
-use Rattle.number.specs.Encode.{encode}
-use Rattle.number.specs.Laws.{Bytes, canonical, read-placed}
-use Rattle.number.specs.Window.{answer, is-read, is-refused}
+use Rattle.numeral.specs.Number.{numberAt}
+use Rattle.numeral.specs.Encode.{encode}
+use Rattle.numeral.specs.Laws.{Bytes, canonical, read-placed}
+use Rattle.numeral.specs.Window.{answer, is-read, is-refused}
 use Rattle.entry.specs.Numbers.{from1to}
 use Rattle.entry.specs.NumberLaws.{from1to-bounds}
 use Rattle.tape.specs.declared.Event.{Event}

@@ -7,9 +7,9 @@ use native.Mathlib.Omega.{arith}
 use borrow.Author.Tests.{lt-ltb, le-ltb, ne-eqb}
 use lib.ListN.{length, drop, drop-of-length-le}
 use Rattle.units.specs.Units.{cents}
-use Rattle.number.specs.declared.Number.the-variants as number
-use Rattle.number.specs.Number.{numberAt}
-use Rattle.number.specs.Window.{missing, answer, is-read, is-refused}
+use Rattle.numeral.specs.declared.Number.the-variants as number
+use Rattle.numeral.specs.Number.{numberAt}
+use Rattle.numeral.specs.Window.{missing, answer, is-read, is-refused}
 use Rattle.entry.specs.Numbers.{from1to}
 use Rattle.tape.specs.declared.Event.the-variants.{Settings, Away, Submit, Turn, Open}
 use Rattle.tape.specs.declared.Reading.the-variants.{Read, Refused, End}

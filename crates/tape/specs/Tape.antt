@@ -5,9 +5,9 @@ use mathlib.Core.Bool.{cond}
 use lib.ListN.{length, getD}
 use lib.Dec.{ltb, eqb}
 use Rattle.units.specs.Units.{cents}
-use Rattle.number.specs.declared.Number.{Number}
-use Rattle.number.specs.declared.Number.the-variants as number
-use Rattle.number.specs.Number.{numberAt}
+use Rattle.numeral.specs.declared.Number.{Number}
+use Rattle.numeral.specs.declared.Number.the-variants as number
+use Rattle.numeral.specs.Number.{numberAt}
 use Rattle.entry.specs.Numbers.{from1to}
 use Rattle.entry.specs.declared.Settings as entry
 use Rattle.tape.specs.declared.Event.{Event}

@@ -7,13 +7,13 @@ use Prim.Native.Nat.{ℕ, suc, _+_, _*_, _≤_, _<_}
 use native.Mathlib.Omega.{arith}
 use borrow.Author.Tests.{lt-ltb, le-ltb}
 use lib.ListN.{length, length-append}
-use Rattle.number.specs.declared.Number.the-variants as number
-use Rattle.number.specs.Number.{numberAt}
-use Rattle.number.specs.Cases.{below}
-use Rattle.number.specs.Cases as number-cases
-use Rattle.number.specs.Laws as number-laws
-use Rattle.number.specs.Window as number-window
-use Rattle.number.specs.Window.{answer, is-read, is-refused, longest}
+use Rattle.numeral.specs.declared.Number.the-variants as number
+use Rattle.numeral.specs.Number.{numberAt}
+use Rattle.numeral.specs.Cases.{below}
+use Rattle.numeral.specs.Cases as number-cases
+use Rattle.numeral.specs.Laws as number-laws
+use Rattle.numeral.specs.Window as number-window
+use Rattle.numeral.specs.Window.{answer, is-read, is-refused, longest}
 use Rattle.tape.specs.declared.Event.{Event}
 use Rattle.tape.specs.declared.Reading.{Reading}
 use Rattle.tape.specs.declared.Reading.the-variants.{Read, Refused, End}

@@ -5,7 +5,7 @@ use crate::several::Several;
 use crate::several::read_several;
 use entry::Away;
 use entry::Settings;
-use number::Number;
+use numeral::Number;
 use units::Cents;
 use units::words::both;
 ghost use mathlib.Core.Path.{_≡_};
@@ -77,13 +77,13 @@ fn settings(s: &[u8], at: usize) -> Reading
 fn away(s: &[u8], at: usize) -> Reading
     ensures { λ r. ⌜ r ≡ reading away (now (s .entry)) at at ⌝ }
 {
-    let first = number::read(s, at);
+    let first = numeral::read(s, at);
     let Number::Read(bid, next) = first else {
-        return Reading::Refused(number::refusal(first), at);
+        return Reading::Refused(numeral::refusal(first), at);
     };
-    let second = number::read(s, next);
+    let second = numeral::read(s, next);
     let Number::Read(offer, end) = second else {
-        return Reading::Refused(number::refusal(second), next);
+        return Reading::Refused(numeral::refusal(second), next);
     };
     let quote = Away {
         bid: Cents(bid),
@@ -97,13 +97,13 @@ fn submit(s: &[u8], at: usize, numbers: &mut [u32]) -> Reading
     ensures answer { λ r. ⌜ r ≡ reading submit (now (s .entry)) at at ⌝ }
     ensures entries { λ _. ⌜ now (numbers .exit) ≡ stored (drop 2 (numbersAt submit (now (s .entry)) at)) (now (numbers .entry)) ⌝ }
 {
-    let named = number::read(s, at);
+    let named = numeral::read(s, at);
     let Number::Read(tenant, next) = named else {
-        return Reading::Refused(number::refusal(named), at);
+        return Reading::Refused(numeral::refusal(named), at);
     };
-    let counted = number::read(s, next);
+    let counted = numeral::read(s, next);
     let Number::Read(count, from) = counted else {
-        return Reading::Refused(number::refusal(counted), next);
+        return Reading::Refused(numeral::refusal(counted), next);
     };
     if both(1 <= count, count <= BULK) {
         let all = read_several(s, from, NUMBERS * count as usize, numbers);
@@ -122,9 +122,9 @@ pub fn event(s: &[u8], at: usize, numbers: &mut [u32]) -> Reading
     if s.len() <= at {
         return Reading::End;
     }
-    let told = number::read(s, at);
+    let told = numeral::read(s, at);
     let Number::Read(kind, next) = told else {
-        return Reading::Refused(number::refusal(told), at);
+        return Reading::Refused(numeral::refusal(told), at);
     };
     match kind {
         SETTINGS => settings(s, next),

@@ -1,5 +1,5 @@
 // Several numbers, one after the other.
-use number::Number;
+use numeral::Number;
 ghost use mathlib.Core.Path.{_≡_};
 ghost use Rattle.tape.specs.Tape.{stored};
 ghost use Rattle.tape.specs.Several.{severalAt, valuesAt};
@@ -18,9 +18,9 @@ pub fn read_several(s: &[u8], at: usize, n: usize, out: &mut [u32]) -> Several
     let mut next = at;
     let mut i = 0usize;
     while i < n {
-        let one = number::read(s, next);
+        let one = numeral::read(s, next);
         let Number::Read(v, end) = one else {
-            return Several::Refused(number::refusal(one), next);
+            return Several::Refused(numeral::refusal(one), next);
         };
         if i < out.len() {
             out[i] = v;

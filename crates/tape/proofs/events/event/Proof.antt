@@ -4,8 +4,8 @@ use Prim.Native.Nat.{_<_}
 use native.Mathlib.Omega.{arith}
 use borrow.Author.Needs.{needs}
 use lib.ListN.{length}
-use Rattle.number.specs.declared.Number.the-variants as number
-use Rattle.number.specs.Number.{numberAt}
+use Rattle.numeral.specs.declared.Number.the-variants as number
+use Rattle.numeral.specs.Number.{numberAt}
 use Rattle.tape.specs.Several.{refused, read}
 use Rattle.tape.specs.Steps.{event-end, event-refused, event-settings, event-away, event-submit, event-turn, event-open, event-33}
 use Rattle.tape.proofs.events.event.Statement.{statement}

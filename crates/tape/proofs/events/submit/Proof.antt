@@ -1,8 +1,8 @@
 -- `submit` meets its contract: each return by what the tenant, the count and the entries gave.
 use mathlib.Core.Path.{_≡_, sym, _∙_}
 use borrow.Author.Needs.{needs}
-use Rattle.number.specs.declared.Number.the-variants as number
-use Rattle.number.specs.Number.{numberAt}
+use Rattle.numeral.specs.declared.Number.the-variants as number
+use Rattle.numeral.specs.Number.{numberAt}
 use Rattle.entry.specs.Numbers.{from1to}
 use Rattle.tape.specs.Several.{refused, read}
 use Rattle.tape.specs.Steps.{submit-tenant, submit-count, submit-34, submit-read}

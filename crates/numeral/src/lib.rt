@@ -1,7 +1,7 @@
 // The tape's number reader: one to five bytes, seven bits each, low group first, the top bit set on all but the last.
 ghost use mathlib.Core.Path.{_≡_};
 ghost use lib.ListN.{drop};
-ghost use Rattle.number.specs.Number.{numberIn, numberAt, refusalOf};
+ghost use Rattle.numeral.specs.Number.{numberIn, numberAt, refusalOf};
 
 // A number with the place after its last byte, or the number of its refusal: 30 cut short, 31 more than one byte and
 // the last is 0, 32 above 4,294,967,295 or a fifth byte with its top bit set.
