@@ -181,7 +181,8 @@ module _ (r : Resting) (q : ℕ) where
   unfolding left before level
   all-filled d k = filled key (fill r q k) size q places (level-filled d k)
 
-  -- A worse price trades only when the better is exhausted: where a row trades, all rows of better prices trade all that they hold.
+  -- A worse price trades only when the better is exhausted: where a row trades, all rows of better prices trade all
+  -- that they hold.
   pub best-first : Distinct r → (k : Class) (i j : ℕ) → i < places → j < places → 0 < fill r q k i → key j < key i → fill r q k j ≡ size j
   unfolding left before level
   best-first d k i j p p′ x h =

@@ -1,4 +1,5 @@
--- What a row trades, told by the margin: all of it at a better price, nothing at a worse one, and at the margin by the class.
+-- What a row trades, told by the margin: all of it at a better price, nothing at a worse one, and at the margin by the
+-- class.
 use mathlib.Core.Path.{_≡_, refl}
 use Prim.Native.Nat.{ℕ, suc, _+_, _-_, _≤_, _<_, min}
 use native.Mathlib.Omega.{arith}

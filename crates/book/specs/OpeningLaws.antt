@@ -171,7 +171,8 @@ module _ (b : Book) (p : ℕ) where
     | no l ↦ omega arith
   ]
 
-  -- After an opening at p, whatever p is, no remaining buy is at or above a remaining sell: the open book is neither locked nor crossed.
+  -- After an opening at p, whatever p is, no remaining buy is at or above a remaining sell: the open book is neither
+  -- locked nor crossed.
   pub never-locked-or-crossed : (i j : ℕ) → i < b .places → j < b .places → 0 < sizeAt (afterOpening b p) i → 0 < sizeAt (afterOpening b p) j
       → sideAt b i ≡ 1 → sideAt b j ≡ 2 → priceAt b i < priceAt b j
   unfolding afterFills

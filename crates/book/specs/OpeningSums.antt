@@ -1,4 +1,5 @@
--- The records of an opening: those of buys first, then those of sells; what a tenant's records have is what the tenant bought and sold.
+-- The records of an opening: those of buys first, then those of sells; what a tenant's records have is what the tenant
+-- bought and sold.
 use mathlib.Core.Path.{_≡_, refl, sym, _∙_}
 use mathlib.Core.List.{List}
 use Prim.Native.Nat.{ℕ, _+_, _≤_, _<_}

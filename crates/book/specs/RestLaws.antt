@@ -1,4 +1,5 @@
--- What resting an order in the first free row does to a sound book, and that a tenant with room always finds a free row.
+-- What resting an order in the first free row does to a sound book, and that a tenant with room always finds a free
+-- row.
 use mathlib.Core.Path.{_≡_, refl, sym, ap, _∙_}
 use mathlib.Core.List.{List}
 use mathlib.Core.Logic.{_≢_}

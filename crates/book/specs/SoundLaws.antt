@@ -1,5 +1,5 @@
--- What keeps a book sound: an empty one is, trading, cancelling and opening take from rows, resting fills a free one; and a sound book is fit for a
--- match.
+-- What keeps a book sound: an empty one is, trading, cancelling and opening take from rows, resting fills a free one;
+-- and a sound book is fit for a match.
 use mathlib.Core.Path.{_≡_, sym, _∙_}
 use mathlib.Core.Bool.{false}
 use mathlib.Core.List.{List}

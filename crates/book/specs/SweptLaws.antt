@@ -1,4 +1,5 @@
--- An order that is not filled in full has traded with all that rested within its bound: what is left of that side is beyond the bound.
+-- An order that is not filled in full has traded with all that rested within its bound: what is left of that side is
+-- beyond the bound.
 use mathlib.Core.Path.{_≡_, ap}
 use Prim.Native.Nat.{ℕ, _-_, _≤_, _<_}
 use native.Mathlib.Omega.{arith}

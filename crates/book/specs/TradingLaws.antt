@@ -1,4 +1,5 @@
--- Laws of trading: what a row gives, what all together give, and how the columns that the program works out are those of the definitions.
+-- Laws of trading: what a row gives, what all together give, and how the columns that the program works out are those
+-- of the definitions.
 use mathlib.Core.Path.{_≡_, refl, sym, ap, _∙_}
 use mathlib.Core.List.{List, []}
 use Prim.Native.Nat.{ℕ, _*_, _-_, _/_, _≤_, _<_, min}

@@ -1,9 +1,11 @@
-// The matching crate: what an incoming order trades with the resting rows, what rests and what is cancelled, and the opening's match.
+// The matching crate: what an incoming order trades with the resting rows, what rests and what is cancelled, and the
+// opening's match.
 pub mod quotes;
 pub mod records;
 pub mod resting;
 pub mod shares;
 pub mod trading;
 
-// The fill records that a caller lends, as plain numbers: order number, tenant, quantity and price of each in turn, for every row of the book.
+// The fill records that a caller lends, as plain numbers: order number, tenant, quantity and price of each in turn, for
+// every row of the book.
 pub type Records = [u32; 864];

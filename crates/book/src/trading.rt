@@ -44,8 +44,8 @@ fn fillable(q: u32, all: u64) -> u32
     if all < wide(q) { all as u32 } else { q }
 }
 
-// An order trades with the rows of one side within its bound, best price first, by the class; what each row trades and the records are written to
-// the lent memory.
+// An order trades with the rows of one side within its bound, best price first, by the class; what each row trades and
+// the records are written to the lent memory.
 pub fn trade(
     allocation: u32,
     side: u32,

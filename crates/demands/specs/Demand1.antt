@@ -1,8 +1,8 @@
--- Demand 1. Any call with any numbers ends with a result; a refused call changes nothing; a taken turn whose entry is turned down changes only the
--- lane, the rotation and the count of turns.
+-- Demand 1. Any call with any numbers ends with a result; a refused call changes nothing; a taken turn whose entry is
+-- turned down changes only the lane, the rotation and the count of turns.
 --
--- That a call ends with a result is in the words here: `step` is a total function, and the promise of each call is an equation with it for every
--- sound market and every argument.
+-- That a call ends with a result is in the words here: `step` is a total function, and the promise of each call is an
+-- equation with it for every sound market and every argument.
 use mathlib.Core.Path.{_≡_}
 use mathlib.Core.Logic.{_≢_}
 use mathlib.Core.Bool.{true}

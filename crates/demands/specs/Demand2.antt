@@ -1,5 +1,5 @@
--- Demand 2, as statements: each call answers by the rules of document 01. The proofs stand in Demand2Refusals, Demand2Stores, Demand2Turn,
--- Demand2Fills and Demand2Opening, and together in Demand2Proof.
+-- Demand 2, as statements: each call answers by the rules of document 01. The proofs stand in Demand2Refusals,
+-- Demand2Stores, Demand2Turn, Demand2Fills and Demand2Opening, and together in Demand2Proof.
 use mathlib.Core.Path.{_≡_}
 use mathlib.Core.Logic.{_↔_, _⊎_}
 use mathlib.Core.Bool.{true, false}
@@ -75,7 +75,8 @@ noSettings m = 21 if m .session .accepted ≡ false
 abbrev pub awayRules : Market → Cents → Cents → List Rule
 awayRules m bid offer = noSettings m ∷ (8 if ((1000000 < bid .0) ⊎ (1000000 < offer .0))) ∷ []
 
--- submit: 1 tenant, 3 count not 1 to 20 or not six numbers lent for each entry, 2 any malformed entry, 4 waiting plus count above 64
+-- submit: 1 tenant, 3 count not 1 to 20 or not six numbers lent for each entry, 2 any malformed entry, 4 waiting plus
+-- count above 64
 abbrev pub submitRules : Market → ℕ → ℕ → List ℕ → List Rule
 submitRules m tenant count ns =
     noSettings m
@@ -85,7 +86,8 @@ submitRules m tenant count ns =
     ∷ (4 if 64 < lenOf (m .session .lanes) tenant + count)
     ∷ []
 
--- turn: 5 no lane has an entry, 6 fewer than 216 fill records lent, 35 the tallies show 1,000,000,000,000,000,000 turns taken in all
+-- turn: 5 no lane has an entry, 6 fewer than 216 fill records lent, 35 the tallies show 1,000,000,000,000,000,000 turns
+-- taken in all
 abbrev pub turnRules : Market → ℕ → List Rule
 turnRules m lent =
     noSettings m
@@ -115,7 +117,8 @@ pub record Crossing (b : Book) : Type 0 where
   pub sells : sideAt b sell ≡ 2
   pub at-or-above : priceAt b sell ≤ priceAt b buy
 
--- Each refusal number is given exactly in its case, in order, whatever the market, and an answer without one exactly where no case applies.
+-- Each refusal number is given exactly in its case, in order, whatever the market, and an answer without one exactly
+-- where no case applies.
 pub record RefusedInOrder : Type 0 where
   -- 7 exactly where a value is outside the list, and 0 exactly where none is
   pub settings-refused : (m : Market) (s : Settings) → (settingsOf m s .code ≡ 7) ↔ (InList s → ⊥)
@@ -141,7 +144,8 @@ waitingIn m t = waiting (m .session .lanes) (m .entries) t
 
 -- What is accepted is stored, and nothing else changes.
 pub record AcceptedStores : Type 0 where
-  -- accepted settings empty book, lanes, tallies and away quote, put the rotation at tenant 0, the next number at 1 and the series unopened
+  -- accepted settings empty book, lanes, tallies and away quote, put the rotation at tenant 0, the next number at 1 and
+  -- the series unopened
   pub settings : (m : Market) (s : Settings) → settingsOf m s .code ≡ 0
       → (g : Grid) × (gridOf (s .grid) ≡ One g) × (settingsOf m s .market ≡ resetOn m (termsOf s g))
   -- an accepted away replaces the present bid and offer
@@ -231,7 +235,8 @@ module _ (m : Market) (t : ℕ) where
   abbrev pub reached : Resting
   reached = reach (m .book) (opposite (judged m t)) boundIn
 
-  -- what may be traded of row i: all that rests of it where it is on the opposite side and within the bound, else nothing
+  -- what may be traded of row i: all that rests of it where it is on the opposite side and within the bound, else
+  -- nothing
   abbrev pub opensAt : ℕ → ℕ
   opensAt i = openSize (opposite (judged m t)) boundIn (sideAt (m .book) i) (priceAt (m .book) i) (sizeAt (m .book) i)
 
@@ -275,12 +280,14 @@ pub record FilledRight (m : Market) (t : ℕ) (filled : ℕ) : Type 0 where
   -- or than the away quote
   pub buy-away : isBuy (judged m t) ≡ true → 0 < m .session .away .offer .0 → (i : ℕ) → 0 < trades m t i → priceAt (m .book) i ≤ m .session .away .offer .0
   pub sell-away : isSell (judged m t) ≡ true → 0 < m .session .away .bid .0 → (i : ℕ) → 0 < trades m t i → m .session .away .bid .0 ≤ priceAt (m .book) i
-  -- within the order's own bounds nothing better was passed over: where a row trades, each of a better price within the bound trades all that it holds
+  -- within the order's own bounds nothing better was passed over: where a row trades, each of a better price within the
+  -- bound trades all that it holds
   pub buy-best : isBuy (judged m t) ≡ true → (i j : ℕ) → i < m .book .places → j < m .book .places → 0 < trades m t i → 0 < opensAt m t j
       → priceAt (m .book) j < priceAt (m .book) i → trades m t j ≡ sizeAt (m .book) j
   pub sell-best : isSell (judged m t) ≡ true → (i j : ℕ) → i < m .book .places → j < m .book .places → 0 < trades m t i → 0 < opensAt m t j
       → priceAt (m .book) i < priceAt (m .book) j → trades m t j ≡ sizeAt (m .book) j
-  -- at one price, allocation 1 fills by rising order number: where a row trades, each earlier one trades all that it holds
+  -- at one price, allocation 1 fills by rising order number: where a row trades, each earlier one trades all that it
+  -- holds
   pub by-time : m .session .terms .allocation ≡ 1 → (i j : ℕ) → j < m .book .places → 0 < trades m t i → 0 < opensAt m t j
       → priceAt (m .book) j ≡ priceAt (m .book) i → numberAt (m .book) j < numberAt (m .book) i → trades m t j ≡ sizeAt (m .book) j
   -- allocation 2: if Q ≥ S, all fill; else each row gets the whole part of Q·s/S or one more,
@@ -349,8 +356,8 @@ module _ (m : Market) (p : ℕ) where
   abbrev pub onceFilled : Book
   onceFilled = afterFills (m .book) p
 
--- row i is cancelled: buys at P or more remain, and it is a buy at or above the lowest remaining sell; or sells at P or less remain, and it is a sell at
--- or below the highest remaining buy
+-- row i is cancelled: buys at P or more remain, and it is a buy at or above the lowest remaining sell; or sells at P or
+-- less remain, and it is a sell at or below the highest remaining buy
 abbrev pub Cancelled : Market → ℕ → ℕ → Type 0
 Cancelled m p i =
     ((sideAt (m .book) i ≡ 1) × (0 < withinBound (onceFilled m p) 1 p) × (bestSell (onceFilled m p) ≤ priceAt (m .book) i))
@@ -360,7 +367,8 @@ Cancelled m p i =
 pub record OpenedAt (m : Market) (was : List ℕ) (p traded fills : ℕ) (l : List ℕ) (after : Book) : Type 0 where
   -- the price is the first valid of midpoint, last print and previous close
   pub price : First (sourcesOf (m .session)) (At (cents p))
-  -- the volume is the lesser of buys at P or more and sells at P or less, and both sides fill it: as much is bought as sold
+  -- the volume is the lesser of buys at P or more and sells at P or less, and both sides fill it: as much is bought as
+  -- sold
   pub lesser : traded ≡ min (sumTo (buysAt m p) (m .book .places)) (sumTo (sellsAt m p) (m .book .places))
   pub in-all-bought : sumTo (bought (m .book) p) (m .book .places) ≡ traded
   pub in-all-sold : sumTo (sold (m .book) p) (m .book .places) ≡ traded

@@ -1,8 +1,9 @@
--- Demand 3, fairness. In any run of calls without an accepted settings, of any n successive taken turns a tenant with an entry waiting before each
--- gets at least n/9, whole part, and no other tenant more than one turn above it; submits, aways, openings and refused calls may stand between
--- the turns. A turn whose entry is turned down is a taken turn.
+-- Demand 3, fairness. In any run of calls without an accepted settings, of any n successive taken turns a tenant with
+-- an entry waiting before each gets at least n/9, whole part, and no other tenant more than one turn above it; submits,
+-- aways, openings and refused calls may stand between the turns. A turn whose entry is turned down is a taken turn.
 --
--- The market before each call of a run is reached itself (`reached-on`), so that a run from a reached market is any part of any run.
+-- The market before each call of a run is reached itself (`reached-on`), so that a run from a reached market is any
+-- part of any run.
 use mathlib.Core.Path.{_≡_}
 use mathlib.Core.Bool.{true, false}
 use mathlib.Core.List.{List, [], _∷_}

@@ -1,4 +1,5 @@
--- Demand 3: each call moves the rotation as a run of turns has it or leaves it, so that the rotation's fairness is that of the calls.
+-- Demand 3: each call moves the rotation as a run of turns has it or leaves it, so that the rotation's fairness is that
+-- of the calls.
 use mathlib.Core.Path.{_≡_, refl, sym, ap, _∙_, subst}
 use mathlib.Core.Bool.{Bool, true, false, true≢false}
 use mathlib.Core.List.{List, [], _∷_}
@@ -22,7 +23,8 @@ use Rattle.demands.specs.Outcomes.{SetCame, CallCame, TurnCame, OpenCame
 use Rattle.demands.specs.Shape.{reached-shaped, leaves}
 use Rattle.demands.specs.Demand3.{takes, turnsTaken, turnsOf, NoReset, WaitsBeforeEach, Demand3}
 
--- lanes before and after a call: a taken turn is that of the lane served and moves the place past it, anything else leaves the place
+-- lanes before and after a call: a taken turn is that of the lane served and moves the place past it, anything else
+-- leaves the place
 abbrev Moves : Lanes → Lanes → Served → Type 0
 Moves l next (Lane t) = (served l ≡ Lane t) × (next .place ≡ on t 1)
 Moves l next Nobody = next .place ≡ l .place

@@ -32,8 +32,8 @@ abbrev pub ruled : List Case → List Rule
 ruled [] = []
 ruled (c ∷ cs) = (c .number if c .test ≡ true) ∷ ruled cs
 
--- Each number is given exactly in its case, in order: where its own case holds and none before it. What is otherwise is so exactly where no case
--- holds; and no other number is given.
+-- Each number is given exactly in its case, in order: where its own case holds and none before it. What is otherwise is
+-- so exactly where no case holds; and no other number is given.
 pub record GivenInOrder (rules : List Rule) (gives : ℕ → Type 0) (otherwise : Type 0) : Type 0 where
   pub each : (i : ℕ) → i < length rules → gives (ruleAt rules i .number) ↔ (NoneOf (take i rules) × ruleAt rules i .case)
   pub none : otherwise ↔ NoneOf rules

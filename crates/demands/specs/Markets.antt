@@ -12,7 +12,8 @@ use Rattle.entry.specs.declared.Terms.{Terms}
 use Rattle.lanes.specs.Ring.{tenants}
 use Rattle.session.specs.declared.Session.{Session}
 
--- the settings of the worked example: time class, grid 1, call, strike 10000, D 10, F 20, x 10, least 25, greatest 500, no prints
+-- the settings of the worked example: time class, grid 1, call, strike 10000, D 10, F 20, x 10, least 25, greatest 500,
+-- no prints
 abbrev pub worked : Settings
 worked = record {
   allocation = 1;

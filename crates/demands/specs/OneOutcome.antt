@@ -1,6 +1,6 @@
--- One outcome: for each function that another crate may call, two outcomes that meet its promise are equal, result and lent memory. The promise is
--- cited as its contract has it: `Post`, of the lifetimes, the arguments, the result, and the arguments as the function leaves them; `now` of an argument
--- is what stands in the memory lent by it.
+-- One outcome: for each function that another crate may call, two outcomes that meet its promise are equal, result and
+-- lent memory. The promise is cited as its contract has it: `Post`, of the lifetimes, the arguments, the result, and
+-- the arguments as the function leaves them; `now` of an argument is what stands in the memory lent by it.
 use mathlib.Core.Path.{_≡_, refl, sym, _∙_, ap}
 use mathlib.Core.List.{List, [], _∷_}
 use Prim.Native.Nat.{ℕ}
@@ -391,7 +391,8 @@ one-tally-count κs a z z′ e e′ = same
 pub one-tally-turns-in-all : OneResult tally-turns-in-all.Post
 one-tally-turns-in-all κs a z z′ e e′ = same
 
--- `add` stands outside the covered forms, so its promise is read from its contract's clauses: what it says is that the tally is left as `AddedTo` has it
+-- `add` stands outside the covered forms, so its promise is read from its contract's clauses: what it says is that the
+-- tally is left as `AddedTo` has it
 abbrev pub AddedTo : Tally → ℕ → ℕ → ℕ → Tally → Type 0
 AddedTo entry turns bought sold exit = exit ≡ plus entry turns bought sold
 

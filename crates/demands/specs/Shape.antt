@@ -1,4 +1,5 @@
--- What a taken turn leaves, what every call keeps, and the shape of every reached market: 216 rows, nine lanes, nine tallies.
+-- What a taken turn leaves, what every call keeps, and the shape of every reached market: 216 rows, nine lanes, nine
+-- tallies.
 use mathlib.Core.Path.{_≡_, refl, sym, ap, _∙_, subst}
 use mathlib.Core.Bool.{true}
 use mathlib.Core.List.{List}
@@ -34,8 +35,8 @@ use Rattle.demands.specs.RunLaws.{reached-has}
 use Rattle.demands.specs.Outcomes as outcomes
 use Rattle.demands.specs.Outcomes.{CallCame, TakenCame, set-came, away-came, submit-came, turn-came, open-came, once}
 
--- What every taken turn leaves, however its entry comes out: the answer names its tenant; of the lanes that one has lost its head, and the place has
--- moved.
+-- What every taken turn leaves, however its entry comes out: the answer names its tenant; of the lanes that one has
+-- lost its head, and the place has moved.
 pub record Leaves (m : Market) (t : ℕ) (d : TurnDone) : Type 0 where
   pub names : laneIn (turned (d .answer)) ≡ Lane t
   pub lanes : d .market .session .lanes ≡ taken (m .session .lanes) t

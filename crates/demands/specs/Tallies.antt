@@ -1,6 +1,6 @@
--- The tallies are sums over the history: turns taken, contracts bought and contracts sold of each tenant are what the answers and the fill records of
--- the calls since the last accepted settings say, the opening's included; and as much is bought as sold, in every call and in every reached
--- market.
+-- The tallies are sums over the history: turns taken, contracts bought and contracts sold of each tenant are what the
+-- answers and the fill records of the calls since the last accepted settings say, the opening's included; and as much
+-- is bought as sold, in every call and in every reached market.
 use mathlib.Core.Path.{_≡_}
 use mathlib.Core.List.{List, [], _∷_}
 use Prim.Native.Nat.{ℕ, _+_, _<_}
@@ -22,16 +22,17 @@ use Rattle.demands.specs.Runs.{Call, Answer, coded, turned, opened, step
 abbrev pub inRecords : List ℕ → (ℕ → ℕ) → ℕ → ℕ → ℕ
 inRecords records f n u = sumTo (same (tenantIn records) u f) n
 
--- An opening's records are those of the buys and then those of the sells, and each side makes up the volume: record q is a buy's if the contracts of
--- those before it are fewer than the volume, else a sell's.
+-- An opening's records are those of the buys and then those of the sells, and each side makes up the volume: record q
+-- is a buy's if the contracts of those before it are fewer than the volume, else a sell's.
 abbrev pub ofBuys : List ℕ → ℕ → ℕ → ℕ
 ofBuys records volume q = keep (ltb (sumTo (quantityIn records) q) volume) (quantityIn records q)
 
 abbrev pub ofSells : List ℕ → ℕ → ℕ → ℕ
 ofSells records volume q = keep (leb volume (sumTo (quantityIn records) q)) (quantityIn records q)
 
--- What a call on market m says that tenant u bought, by its answer and its fill records: of an accepted order to buy, the incoming tenant what was
--- filled; of one to sell, the resting tenants what their records have; of an opening, the tenants of the buys' records.
+-- What a call on market m says that tenant u bought, by its answer and its fill records: of an accepted order to buy,
+-- the incoming tenant what was filled; of one to sell, the resting tenants what their records have; of an opening, the
+-- tenants of the buys' records.
 abbrev pub boughtIn : Market → Answer → List ℕ → ℕ → ℕ
 boughtIn m (coded code) records u = 0
 boughtIn m (turned (turn-answer.Refused code)) records u = 0

@@ -1,4 +1,5 @@
--- The tallies as sums: each call adds to each tenant's tally what its answer and its records say, and as much bought as sold.
+-- The tallies as sums: each call adds to each tenant's tally what its answer and its records say, and as much bought as
+-- sold.
 use mathlib.Core.Path.{_≡_, refl, sym, ap, ap₂, _∙_, subst}
 use mathlib.Core.Bool.{Bool, true, false, true≢false, false≢true}
 use mathlib.Core.List.{List, [], _∷_}

@@ -43,8 +43,8 @@ use Rattle.demands.specs.Runs.{Call, settings, submit, turn, opening, co
 abbrev pub start : Market
 start = record { session = newSession; book = emptyBook 2; entries = [] }
 
--- Time class, grid 1, call, strike 10000, D 10, F 20, x 10, least 25, greatest 500, no prints; open; tenant 2 buys 5 at 100 for the day; tenant 7
--- sells 3 at 100 now; three turns.
+-- Time class, grid 1, call, strike 10000, D 10, F 20, x 10, least 25, greatest 500, no prints; open; tenant 2 buys 5 at
+-- 100 for the day; tenant 7 sells 3 at 100 now; three turns.
 abbrev pub afterSettings : List Call
 afterSettings =
     opening 216 []

@@ -1,4 +1,5 @@
--- The form of an entry: kind (1 limit, 2 market, 3 cancel), side (1 buy, 2 sell), life (1 day, 2 now), price, size, order number.
+-- The form of an entry: kind (1 limit, 2 market, 3 cancel), side (1 buy, 2 sell), life (1 day, 2 now), price, size,
+-- order number.
 use mathlib.Core.Bool.{Bool}
 use lib.Dec.{leb, eqb}
 use Rattle.units.specs.Tests.{_and_, _or_, isNot}

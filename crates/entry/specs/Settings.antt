@@ -12,7 +12,8 @@ use Rattle.entry.specs.Numbers.{oneOrTwo, from1to}
 unfoldable pub seriesInRange : Settings → Bool
 seriesInRange s = oneOrTwo (s .allocation) and oneOrTwo (s .option) and from1to highest (s .strike .0)
 
--- drill buffer D and far-price buffer F, 0 to 1,000,000; width percent x, 0 to 1,000; least and greatest width, least ≤ greatest ≤ 1,000,000;
+-- drill buffer D and far-price buffer F, 0 to 1,000,000; width percent x, 0 to 1,000; least and greatest width, least ≤
+-- greatest ≤ 1,000,000;
 unfoldable pub protectionsInRange : Settings → Bool
 protectionsInRange s =
     (leb (s .drill .0) highest and leb (s .far .0) highest)

@@ -1,5 +1,5 @@
--- What `turn` and `open` have in common: the flat records, a local that begins at zeros, and the call of `store_all`, to which the row of fills and the flat records are passed.
--- Assumes nothing but `Given`.
+-- What `turn` and `open` have in common: the flat records, a local that begins at zeros, and the call of `store_all`,
+-- to which the row of fills and the flat records are passed. Assumes nothing but `Given`.
 use mathlib.Core.Path.{refl}
 use Prim.Native.Nat.{ℕ, _<_}
 use native.Mathlib.Omega.{arith}
@@ -66,7 +66,8 @@ module _ {M : Type 1} (𝓤 : URA M) (H : Heap 𝓤) (A : Atoms 𝓤) (at-mem : 
   abbrev pub StoreAll : Contract 𝓤
   StoreAll = tripleOf 𝓤 H A store-all.signature (store-all.spec 𝓤 H A at-mem run)
 
-  -- what the triple of `store_all` binds outside: the row at its lifetime κ and share q, the flat records at a lifetime ν of the call
+  -- what the triple of `store_all` binds outside: the row at its lifetime κ and share q, the flat records at a lifetime
+  -- ν of the call
   abbrev pub to-store : Lft → Share → RefT (List Fill) → ℕ → ℕ → ℕ → GName → List ℕ → StoreAll .Ghost
   to-store κ q x n ν l ε rs = (((κ, (ν ∷ [], tt)), (q, (fullShare, tt)), tt, (x, (xr l ε rs, (n, tt))), (slice-of x ∷ [], (vptr l 0 ∷ [], (vint w64 n ∷ [], tt)))), tt)
 

@@ -1,9 +1,10 @@
--- A local array of plain elements, as what a `&mut [T; n]` or a `&[T; n]` of it borrows, and back. It says nothing of the crate, and can be copied as it stands.
+-- A local array of plain elements, as what a `&mut [T; n]` or a `&[T; n]` of it borrows, and back. It says nothing of
+-- the crate, and can be copied as it stands.
 --     array-is       `[x; n]`'s machine value, n times x's, has the array's relation
 --     array-laid     the cell of a local array with the machine value of ys  ⊢  the array ys lies there
 --     array-found    the array ys lies there  ⊢  the cell of a local array with its machine value, and the array's relation
--- `Denote/Lend.antt`'s `lends-ref` and `lends-shr` take the second's right side, and `ref-back` and `Types/Tokens.antt`'s `lent-back` give the third's left side.
--- Assumes `Given`.
+-- `Denote/Lend.antt`'s `lends-ref` and `lends-shr` take the second's right side, and `ref-back` and
+-- `Types/Tokens.antt`'s `lent-back` give the third's left side. Assumes `Given`.
 use Prim.Native.Nat.{ℕ, zero, suc}
 use mathlib.Core.Path.{refl}
 use mathlib.Core.List.{List, [], _∷_}

@@ -72,7 +72,8 @@ pub turn-within : (m : Market) (lent : ℕ) (was : List ℕ) → m .book .places
 unfolding turnOf
 turn-within m lent was e = picked (Few lent) _ _ _ (λ _. omega arith) (λ h. omega (arith, lane-few was m (served (m .session .lanes)), turn-lent (m .session) lent h))
 
--- what a turn of the rules tells of its flat records and their number tells all of the row: the fills fit, and stored they make the turn with that row
+-- what a turn of the rules tells of its flat records and their number tells all of the row: the fills fit, and stored
+-- they make the turn with that row
 pub turn-told : (m : Market) (row : List Fill) (t : Turned) (b : Book) (entries rs : List ℕ) (n : ℕ) → m .book .places ≡ rows
     → turnDone t b entries rs ≡ turnOf m (length row) blank → n ≡ fillsIn (t .answer)
     → Fits n row × (turnStored t b entries (stored rs n row) ≡ turnWith m row)

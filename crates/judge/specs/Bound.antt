@@ -13,7 +13,8 @@ use Rattle.entry.specs.declared.Terms.{Terms}
 use Rattle.entry.specs.Numbers.{present}
 use Rattle.entry.specs.Entry.{isLimit, isMarket, isBuy}
 
--- The buy bound is the least of: the limit; the away offer if any; NBO + D if any; for a market buy of a put, strike − 1.
+-- The buy bound is the least of: the limit; the away offer if any; NBO + D if any; for a market buy of a put, strike −
+-- 1.
 abbrev pub buyBars : Entry → Quotes → Terms → List Case
 buyBars e q t =
     (e .price .0 when isLimit e)

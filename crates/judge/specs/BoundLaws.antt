@@ -1,4 +1,5 @@
--- A bound is a price, never worse than the limit or the away quote; and an order that rests on an open market has its limit as its bound.
+-- A bound is a price, never worse than the limit or the away quote; and an order that rests on an open market has its
+-- limit as its bound.
 use mathlib.Core.Path.{_≡_}
 use mathlib.Core.Logic.{⊎-elim}
 use mathlib.Core.Bool.{true}

@@ -24,7 +24,8 @@ atAway e q =
     ((isBuy e and present (q .away .offer)) and leb (q .away .offer .0) (e .price .0))
     or ((isSell e and present (q .away .bid)) and leb (e .price .0) (q .away .bid .0))
 
--- Disposition, first that applies: 0 filled; 2 market or now; 3 limit beyond the drill price; 4 limit at or beyond the away opposite quote;
+-- Disposition, first that applies: 0 filled; 2 market or now; 3 limit beyond the drill price; 4 limit at or beyond the
+-- away opposite quote;
 abbrev pub dispositions : Entry → Quotes → Terms → Contracts → List Case
 dispositions e q t left =
     (0 when eqb (left .0) 0)

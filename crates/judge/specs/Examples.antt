@@ -73,7 +73,8 @@ E5 = (turnDown marketBuy (quotes 90 110) callTerms trading ≡ 0) × (turnDown m
 abbrev pub E9 : Type 0
 E9 = (turnDown (dayBuy 500) (quotes 0 0) putTerms trading ≡ 12) × (turnDown (dayBuy 495) (quotes 0 0) putTerms trading ≡ 0)
 
--- a market sell for the day with no bid and an offer of 50 becomes a limit at the lowest step and rests there; with an offer of 51 it is 14
+-- a market sell for the day with no bid and an offer of 50 becomes a limit at the lowest step and rests there; with an
+-- offer of 51 it is 14
 abbrev pub Converted : Type 0
 Converted =
     (verdict marketSell (quotes 0 50) callTerms trading ≡ Trades sellAtOne (cents 1))

@@ -50,7 +50,8 @@ pub record Taken (e : Entry) (q : Quotes) (t : Terms) (s : Standing) (j : Entry)
   pub room-left : mightRest j ≡ true → s .resting < rowsATenant
 
 module _ (e : Entry) (q : Quotes) (t : Terms) (s : Standing) where
-  -- what each verdict says: the number given; before the opening the order taken; after it the order taken and its bound
+  -- what each verdict says: the number given; before the opening the order taken; after it the order taken and its
+  -- bound
   abbrev pub Ruled : Judged → Type 0
   Ruled (TurnedDown n) = (n ≡ turnDown e q t s) × (0 < n)
   Ruled (Rests j) = (s .opened ≡ false) × Taken e q t s j

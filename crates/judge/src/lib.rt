@@ -1,4 +1,5 @@
-// How one entry is judged, from a few numbers and no rows: turned down, or the bound within which it trades, and its disposition.
+// How one entry is judged, from a few numbers and no rows: turned down, or the bound within which it trades, and its
+// disposition.
 use entry::Entry;
 use units::Cents;
 
@@ -6,7 +7,8 @@ mod bound;
 pub mod disposition;
 pub mod verdict;
 
-// A new order is turned down by a number; or it rests before the opening, and trades within a bound after it, as judged.
+// A new order is turned down by a number; or it rests before the opening, and trades within a bound after it, as
+// judged.
 pub enum Judged {
     TurnedDown(u32),
     Rests(Entry),

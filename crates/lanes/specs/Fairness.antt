@@ -1,5 +1,5 @@
--- The rotation is fair over any run: no lane gets more than one turn above a lane that has an entry before each of them, so that such a lane gets a
--- ninth of the turns.
+-- The rotation is fair over any run: no lane gets more than one turn above a lane that has an entry before each of
+-- them, so that such a lane gets a ninth of the turns.
 use mathlib.Core.Path.{_≡_, refl, sym, _∙_, ap}
 use mathlib.Core.Bool.{Bool}
 use mathlib.Core.Logic.{_≢_}

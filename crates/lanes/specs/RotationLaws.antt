@@ -1,4 +1,5 @@
--- The lane that a turn serves is the first non-empty one at or after the place, and there is one exactly where some lane has an entry.
+-- The lane that a turn serves is the first non-empty one at or after the place, and there is one exactly where some
+-- lane has an entry.
 use mathlib.Core.Path.{_≡_, refl, sym, _∙_, ap}
 use mathlib.Core.Bool.{Bool, false}
 use mathlib.Core.Logic.{_↔_}

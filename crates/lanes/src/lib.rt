@@ -1,5 +1,5 @@
-// Nine lanes of 64 entries, one for each tenant, and the rotation among them. A lane is a ring: its entries stay where they were put, and its
-// head moves.
+// Nine lanes of 64 entries, one for each tenant, and the rotation among them. A lane is a ring: its entries stay where
+// they were put, and its head moves.
 pub mod ring;
 pub mod rotation;
 

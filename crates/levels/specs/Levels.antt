@@ -1,4 +1,5 @@
--- What is looked for and counted over n rows to share an order among them: the best key, the whole parts of shares, who is served first.
+-- What is looked for and counted over n rows to share an order among them: the best key, the whole parts of shares, who
+-- is served first.
 use mathlib.Core.Bool.{cond, _&&_}
 use Prim.Native.Nat.{ℕ, _*_, _/_}
 use lib.Dec.{leb, ltb, eqb}

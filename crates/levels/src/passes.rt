@@ -41,7 +41,8 @@ fn open_at(side: u32, bound: u32, c: u64, row_side: u32, price: u32, size: u32) 
     )
 }
 
-// A row's order number, if something of it may be traded at key c and it is not below the floor; else past every number.
+// A row's order number, if something of it may be traded at key c and it is not below the floor; else past every
+// number.
 fn number_from(
     side: u32,
     bound: u32,

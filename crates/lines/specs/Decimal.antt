@@ -8,7 +8,8 @@ use lib.Dec.{ltb}
 abbrev pub digit : ℕ → ℕ
 digit d = 48 + d
 
--- the digits of n, the first first; the test says whether n is below 10 and so one digit, and k bounds how many there are
+-- the digits of n, the first first; the test says whether n is below 10 and so one digit, and k bounds how many there
+-- are
 unfoldable pub spelled : ℕ → Bool → ℕ → List ℕ
 spelled zero test n = digit n ∷ []
 spelled (suc k) true n = digit n ∷ []

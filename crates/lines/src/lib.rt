@@ -3,7 +3,8 @@ pub mod gone;
 pub mod line;
 mod parts;
 
-// The bytes that the caller lends: lines are laid out in it one after another, and it is written out when the room for another is gone.
+// The bytes that the caller lends: lines are laid out in it one after another, and it is written out when the room for
+// another is gone.
 pub type Output = [u8; 65536];
 
 pub const OUTPUT: usize = 65536;

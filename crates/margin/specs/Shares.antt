@@ -12,7 +12,8 @@ use Rattle.margin.specs.declared.shares.Terms.{Terms}
 unfoldable pub toMargin : ℕ → ℕ → ℕ → ℕ → ℕ
 toMargin k m size here = cond (ltb k m) size (cond (ltb m k) 0 here)
 
--- By time, with the margin at price m, and there at order n with `last` contracts left: for a row of key k and number i.
+-- By time, with the margin at price m, and there at order n with `last` contracts left: for a row of key k and number
+-- i.
 unfoldable pub timeShare : ℕ → ℕ → ℕ → ℕ → ℕ → ℕ → ℕ
 timeShare m n last k size i = toMargin k m size (toMargin i n size (min size last))
 

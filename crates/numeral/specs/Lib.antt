@@ -1,4 +1,5 @@
--- What the number reader promises: the number at a place; the paper's three conditions; encoding, and how the two fit together.
+-- What the number reader promises: the number at a place; the paper's three conditions; encoding, and how the two fit
+-- together.
 pub mod Number
 pub mod Plain
 pub mod Encode

@@ -12,7 +12,8 @@ ghost use Rattle.units.specs.Places.{at, table};
 ghost use Rattle.rows.specs.Rows.{rows};
 ghost use Rattle.opening.specs.Cancels.{buyCut, sellCut, keptBy, cutOf};
 
-// Which rows are cancelled: buys from the lowest sell up, if buys remain that might have traded; sells from the highest buy down, if such sells do.
+// Which rows are cancelled: buys from the lowest sell up, if buys remain that might have traded; sells from the highest
+// buy down, if such sells do.
 pub struct Cut {
     pub buys: bool,
     pub lowest: u32,

@@ -79,8 +79,8 @@ fn fills_at(
     join(&bought, &sold)
 }
 
-// The opening at a price: each side fills the volume, what would lock or cross the book is cancelled; what each row trades and the
-// records, all at the price, are written to the lent memory.
+// The opening at a price: each side fills the volume, what would lock or cross the book is cancelled; what each row
+// trades and the records, all at the price, are written to the lent memory.
 pub fn open_at(
     price: Cents,
     sides: &Column,

@@ -13,8 +13,8 @@ module _ (bid offer : ℕ) where
   unfoldable pub nearEither : ℕ → Bool
   nearEither price = leb price (bid + minimumAmount bid) || leb offer (price + minimumAmount bid)
 
-  -- Both quotes present: valid if within NBB to NBO and near either. One present: valid at or above the bid, or at or below the offer. None present:
-  -- valid.
+  -- Both quotes present: valid if within NBB to NBO and near either. One present: valid at or above the bid, or at or
+  -- below the offer. None present: valid.
   unfoldable pub valid : ℕ → Bool
   valid price =
       cond (ltb 0 bid)

@@ -1,4 +1,5 @@
-// The opening price: the midpoint of the away quote, the last print or the previous close, the first of them that is valid.
+// The opening price: the midpoint of the away quote, the last print or the previous close, the first of them that is
+// valid.
 mod amounts;
 
 use amounts::minimum_amount;

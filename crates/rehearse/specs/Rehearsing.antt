@@ -27,8 +27,8 @@ givenLong = 120
 abbrev pub farthest : ℕ
 farthest = 9223372036854775808
 
--- how the program stands before each turn of its loop: the market is sound, the bytes printed lie in the output, those at hand in the window, and
--- places of the tape cannot overflow in the turns that are left
+-- how the program stands before each turn of its loop: the market is sound, the bytes printed lie in the output, those
+-- at hand in the window, and places of the tape cannot overflow in the turns that are left
 pub record Rehearsing (m : Market) (records given window out : List ℕ) (at from to base turns : ℕ) : Type 0 where
   pub sound : Sound m
   pub records-long : length records ≡ 4 * rows

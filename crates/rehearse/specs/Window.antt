@@ -17,8 +17,8 @@ longestReading = 615
 unfoldable pub isShort : ℕ → ℕ → Bool → Bool
 isShort from to more = more && ltb (to - from) longestReading
 
--- after a read: what was not replayed stands at the front of the window, and more may stand behind it; the window's first byte is the first that
--- was not replayed
+-- after a read: what was not replayed stands at the front of the window, and more may stand behind it; the window's
+-- first byte is the first that was not replayed
 pub record Refilled (was : List ℕ) (from to base : ℕ) (window : List ℕ) (end first : ℕ) : Type 0 where
   pub long : length window ≡ length was
   pub kept : take (to - from) window ≡ take (to - from) (drop from was)

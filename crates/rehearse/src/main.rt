@@ -1,8 +1,9 @@
 // The program: replays a tape and prints what the market answers.
 //
-// The tape comes from the file that the first argument names, or from standard input. It is read through a window of 64 KiB and printed through an
-// output of the same size, so a tape of any length takes the same memory. A program has no exit status; how the replay ended is written as one byte
-// to file descriptor 3, for the command above: `0` the tape ended, `1` it was refused, `2` a file could not be opened, read or written.
+// The tape comes from the file that the first argument names, or from standard input. It is read through a window of 64
+// KiB and printed through an output of the same size, so a tape of any length takes the same memory. A program has no
+// exit status; how the replay ended is written as one byte to file descriptor 3, for the command above: `0` the tape
+// ended, `1` it was refused, `2` a file could not be opened, read or written.
 mod window;
 
 use lines::OUTPUT;

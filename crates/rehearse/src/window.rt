@@ -12,8 +12,8 @@ const LONGEST_READING: usize = 615;
 // A read or a write failed.
 pub const FAILED: u8 = b'2';
 
-// What a read gave: the place after the bytes at hand, the place of the window's first byte in the tape, whether the tape may go on, and whether
-// the read failed.
+// What a read gave: the place after the bytes at hand, the place of the window's first byte in the tape, whether the
+// tape may go on, and whether the read failed.
 pub struct Filled {
     pub to: usize,
     pub base: u64,

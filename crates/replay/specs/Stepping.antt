@@ -25,7 +25,8 @@ ended = 48
 abbrev pub refused : ℕ
 refused = 49
 
--- what a step prints and makes of the market, the place of the next event, what is lent for the numbers of entries, and whether the tape goes on
+-- what a step prints and makes of the market, the place of the next event, what is lent for the numbers of entries, and
+-- whether the tape goes on
 pub record Step : Type 0 where
   pub printed : Printed
   pub given : List ℕ
@@ -36,8 +37,8 @@ pub record Step : Type 0 where
 abbrev pub last : Market → List ℕ → List ℕ → Printed
 last m was bytes = record { market = m; records = was; bytes = bytes }
 
--- An event is run. A refused tape prints `tape C B`, B counted from the tape's start, and stops; the unfinished event isn't run. A tape that ends
--- between events prints `end`.
+-- An event is run. A refused tape prints `tape C B`, B counted from the tape's start, and stops; the unfinished event
+-- isn't run. A tape that ends between events prints `end`.
 abbrev pub stepBy : Market → ℕ → ℕ → List ℕ → List ℕ → Reading → Step
 stepBy m from base given was (Read e end) = record { printed = eventPrinted m e given was; given = given; from = end; status = going }
 stepBy m from base given was (Refused code place) =

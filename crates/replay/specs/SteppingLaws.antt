@@ -82,8 +82,8 @@ module _ (m : Market) (bytes : List ℕ) (from base : ℕ) (given was : List ℕ
           on-tape = λ h. omega arith;
         }
 
--- The step in a window is the tape's: with 615 bytes at hand, or all that the tape has, it prints and makes the same, and the place of the next
--- event is the window's, counted from the tape's start.
+-- The step in a window is the tape's: with 615 bytes at hand, or all that the tape has, it prints and makes the same,
+-- and the place of the next event is the window's, counted from the tape's start.
 pub buffered-step :
     (m : Market) (front buffer rest : List ℕ) (at : ℕ) (given was : List ℕ) → (at + mostBytes ≤ length buffer) ⊎ (rest ≡ []) →
     (stepOf m (front ++ (buffer ++ rest)) (length front + at) 0 given was .printed ≡ stepOf m buffer at (length front) given was .printed) ×

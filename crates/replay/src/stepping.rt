@@ -23,7 +23,8 @@ pub const ENDED: u8 = b'0';
 
 pub const REFUSED: u8 = b'1';
 
-// What a step leaves: the session, the place after what was printed, the place of the next event, and whether the tape goes on.
+// What a step leaves: the session, the place after what was printed, the place of the next event, and whether the tape
+// goes on.
 pub struct Reached {
     pub session: Session,
     pub at: usize,
@@ -31,7 +32,8 @@ pub struct Reached {
     pub status: u8,
 }
 
-// The event at the place `from` of the tape's bytes that are at hand, of which the first stands at the place `base` of the tape.
+// The event at the place `from` of the tape's bytes that are at hand, of which the first stands at the place `base` of
+// the tape.
 pub fn step(
     s: Session,
     bytes: &[u8],

@@ -1,4 +1,5 @@
--- One row, by its side (1 buy, 2 sell), price, size, owner and order number: how it stands to a bound, and what it counts for.
+-- One row, by its side (1 buy, 2 sell), price, size, owner and order number: how it stands to a bound, and what it
+-- counts for.
 use mathlib.Core.Bool.{Bool, cond, _&&_}
 use Prim.Native.Nat.{ℕ, _-_}
 use lib.Dec.{leb, ltb, eqb}
@@ -20,7 +21,8 @@ highest = 1000000
 abbrev pub noPrice : ℕ
 noPrice = 1000001
 
--- the key of a price on a side, where a lower key is a better price: an offer's price, and what a bid's price lacks of the highest
+-- the key of a price on a side, where a lower key is a better price: an offer's price, and what a bid's price lacks of
+-- the highest
 unfoldable pub keyOf : ℕ → ℕ → ℕ
 keyOf side price = cond (eqb side 2) price (highest - price)
 
@@ -28,7 +30,8 @@ keyOf side price = cond (eqb side 2) price (highest - price)
 unfoldable pub within : ℕ → ℕ → ℕ → Bool
 within side price bound = cond (eqb side 2) (leb price bound) (leb bound price)
 
--- what may be traded of a row by an order that trades with one side within a bound: its size, if it is on the side and within the bound
+-- what may be traded of a row by an order that trades with one side within a bound: its size, if it is on the side and
+-- within the bound
 unfoldable pub openSize : ℕ → ℕ → ℕ → ℕ → ℕ → ℕ
 openSize side bound rowSide price size = keep (eqb rowSide side && within side price bound) size
 

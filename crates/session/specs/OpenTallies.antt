@@ -1,4 +1,5 @@
--- What an opening adds to the tallies: crediting each row what it matched is adding each tenant's contracts bought and sold; the sums fit.
+-- What an opening adds to the tallies: crediting each row what it matched is adding each tenant's contracts bought and
+-- sold; the sums fit.
 use mathlib.Core.Path.{_≡_, refl, _∙_}
 use mathlib.Core.List.{List}
 use Prim.Native.Nat.{ℕ, _+_, _≤_, _<_}

@@ -12,7 +12,8 @@ use Rattle.session.specs.declared.open.Way.the-variants.{Refused, Quiet,
 use Rattle.session.specs.Market.{Market}
 use Rattle.session.specs.Opening.{OpenDone, openRefusal, choiceOf, openQuiet, openAt}
 
--- refused by the first number that applies; else at the price chosen where some resting buy is at or above a resting sell, and else quiet
+-- refused by the first number that applies; else at the price chosen where some resting buy is at or above a resting
+-- sell, and else quiet
 unfoldable pub wayOf : Market → ℕ → Way
 wayOf m lent =
     pick (ltb 0 (openRefusal m lent)) (Refused (openRefusal m lent))

@@ -53,8 +53,8 @@ sourcesOf s = record { bid = s .away .bid; offer = s .away .offer; print = s .te
 unfoldable pub choiceOf : Session → Choice
 choiceOf s = priceOf (sourcesOf s)
 
--- the numbers in the order of checking: 9 already open, 6 fewer than 216 fill records lent, 20 no valid opening price, given in no other case than
--- that some resting buy is at or above a resting sell
+-- the numbers in the order of checking: 9 already open, 6 fewer than 216 fill records lent, 20 no valid opening price,
+-- given in no other case than that some resting buy is at or above a resting sell
 abbrev pub openCases : Market → ℕ → List Case
 openCases m lent =
     unset (m .session)

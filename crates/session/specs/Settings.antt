@@ -25,7 +25,8 @@ use Rattle.session.specs.Market.{Market, Called, marketOf, unset}
 abbrev pub noQuote : Away
 noQuote = record { bid = cents 0; offer = cents 0 }
 
--- a session on new terms: lanes, tallies and away quote empty, the rotation at tenant 0, the next number at 1 and the series unopened
+-- a session on new terms: lanes, tallies and away quote empty, the rotation at tenant 0, the next number at 1 and the
+-- series unopened
 abbrev pub startedOn : Bool → Terms → Session
 startedOn accepted terms = record {
   accepted = accepted;
@@ -57,7 +58,8 @@ noTerms = record {
 abbrev pub newSession : Session
 newSession = startedOn false noTerms
 
--- Accepted settings empty book, lanes, tallies and away quote, put the rotation at tenant 0, the next number at 1 and the series unopened.
+-- Accepted settings empty book, lanes, tallies and away quote, put the rotation at tenant 0, the next number at 1 and
+-- the series unopened.
 abbrev pub resetOn : Market → Terms → Market
 resetOn m terms = record { session = startedOn true terms; book = emptyBook (m .book .places); entries = replicate allEntries 0 }
 

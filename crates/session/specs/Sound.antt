@@ -44,7 +44,8 @@ LanesSound s entries = s .accepted ≡ true → SoundLanes (s .lanes) entries
 abbrev pub TurnsHeld : Session → Type 0
 TurnsHeld s = s .accepted ≡ true → Fitting (s .tallies)
 
--- contracts bought and resting to buy are within 999,999 for each number given, and so are those sold and resting to sell: no sum overflows
+-- contracts bought and resting to buy are within 999,999 for each number given, and so are those sold and resting to
+-- sell: no sum overflows
 pub record SoundTallies (s : Session) (b : Book) : Type 0 where
   pub long : length (s .tallies) ≡ tenants
   pub turns : turnsInAll (s .tallies) ≤ mostTurns

@@ -47,8 +47,8 @@ withLanes s lanes = record {
   tallies = s .tallies;
 }
 
--- Submit takes all of a bulk or none: an accepted one puts its entries, as given and in their order, behind those waiting in the tenant's lane,
--- answers 0 and changes nothing else.
+-- Submit takes all of a bulk or none: an accepted one puts its entries, as given and in their order, behind those
+-- waiting in the tenant's lane, answers 0 and changes nothing else.
 abbrev pub withEntries : Market → ℕ → ℕ → List ℕ → Market
 withEntries m tenant count ns =
     marketOf (withLanes (m .session) (joined (m .session .lanes) tenant count)) (m .book)

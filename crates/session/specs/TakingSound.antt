@@ -1,4 +1,5 @@
--- A turn that is not refused takes the head entry of the lane served: what it has, and that what a market holds is held once the turn is taken.
+-- A turn that is not refused takes the head entry of the lane served: what it has, and that what a market holds is held
+-- once the turn is taken.
 use mathlib.Core.Path.{_≡_, refl, ap, _∙_}
 use mathlib.Core.Bool.{true, false, true≢false}
 use mathlib.Core.List.{List}

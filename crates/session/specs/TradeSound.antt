@@ -1,4 +1,5 @@
--- An order that trades keeps what a market holds: what is left of it rests only where it has traded with all that was within its limit.
+-- An order that trades keeps what a market holds: what is left of it rests only where it has traded with all that was
+-- within its limit.
 use mathlib.Core.Path.{_≡_}
 use mathlib.Core.Bool.{true}
 use mathlib.Core.List.{List}

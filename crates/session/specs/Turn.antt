@@ -43,8 +43,8 @@ pub record TurnDone : Type 0 where
 abbrev pub turnDone : Turned → Book → List ℕ → List ℕ → TurnDone
 turnDone r book entries records = record { market = marketOf (r .session) book entries; answer = r .answer; records = records }
 
--- the paper's values of a taken turn: tenant, code, number, filled, disposition; an entry turned down gives 0 for number, filled and disposition; an
--- accepted cancel gives disposition 5, the cancelled order's number and filled 0
+-- the paper's values of a taken turn: tenant, code, number, filled, disposition; an entry turned down gives 0 for
+-- number, filled and disposition; an accepted cancel gives disposition 5, the cancelled order's number and filled 0
 pub record Line : Type 0 where
   pub tenant : ℕ
   pub code : ℕ
@@ -116,7 +116,8 @@ numbered s next tallies = record {
 abbrev pub tradedTo : Market → Book → ℕ → List Tally → Market
 tradedTo m book next tallies = marketOf (numbered (m .session) next tallies) book (m .entries)
 
--- A taken turn removes the head entry of its lane and moves the place to the tenant after it; it counts as a turn of that tenant.
+-- A taken turn removes the head entry of its lane and moves the place to the tenant after it; it counts as a turn of
+-- that tenant.
 unfoldable pub afterTaking : Session → ℕ → Session
 afterTaking s t = record {
   accepted = s .accepted;

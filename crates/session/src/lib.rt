@@ -23,8 +23,8 @@ ghost use Rattle.session.specs.Market.{marketOf};
 ghost use Rattle.session.specs.Settings.{noTerms, newSession};
 ghost use Rattle.session.specs.Sound.{Sound};
 
-// All of a session that is small; the columns of the book and the lanes' entries are lent beside it. Nobody makes one but `Session::new` and the
-// calls.
+// All of a session that is small; the columns of the book and the lanes' entries are lent beside it. Nobody makes one
+// but `Session::new` and the calls.
 pub struct Session {
     accepted: bool,
     terms: Terms,
@@ -74,8 +74,9 @@ pub struct Answered {
     pub code: u32,
 }
 
-// What a turn answers: refused by a number; or a taken turn of a tenant, whose entry is turned down by a number, or cancels an order, or is
-// accepted as an order, with the contracts filled, its disposition, and how many fill records it wrote.
+// What a turn answers: refused by a number; or a taken turn of a tenant, whose entry is turned down by a number, or
+// cancels an order, or is accepted as an order, with the contracts filled, its disposition, and how many fill records
+// it wrote.
 pub enum TurnAnswer {
     Refused(u32),
     TurnedDown(usize, u32),
@@ -88,8 +89,8 @@ pub struct Turned {
     pub answer: TurnAnswer,
 }
 
-// What an opening answers: refused by a number; or the price and the volume, both 0 where no resting buy was at or above a resting sell, and how
-// many fill records it wrote.
+// What an opening answers: refused by a number; or the price and the volume, both 0 where no resting buy was at or
+// above a resting sell, and how many fill records it wrote.
 pub enum OpenAnswer {
     Refused(u32),
     AtPrice(Cents, Contracts, usize),

@@ -25,7 +25,8 @@ ghost use Rattle.session.specs.Sound.{Ready, BookSound, Sound};
 ghost use Rattle.session.specs.Opening.{openDone, choiceOf, openOn, openAt, openOf};
 ghost use Rattle.session.specs.OpenWay.{wayOf};
 
-// Which way an open goes: refused by a number; quiet, where no resting buy is at or above a resting sell; or at the price chosen.
+// Which way an open goes: refused by a number; quiet, where no resting buy is at or above a resting sell; or at the
+// price chosen.
 enum Way {
     Refused(u32),
     Quiet,
@@ -85,7 +86,8 @@ fn open_on(s: Session, tallies: [Tally; 9]) -> Session
     after
 }
 
-// The opening at a price: the book trades and is rid of what would lock or cross it, and each row's contracts are counted for its owner.
+// The opening at a price: the book trades and is rid of what would lock or cross it, and each row's contracts are
+// counted for its owner.
 fn match_at(
     s: Session,
     price: Cents,

@@ -30,7 +30,8 @@ fn other_side(side: u32) -> u32
     if side == BUY { SELL } else { BUY }
 }
 
-// The order trades with opposite rows within its bound; each tenant's tally is added to, the incoming order's and those of the rows that traded.
+// The order trades with opposite rows within its bound; each tenant's tally is added to, the incoming order's and those
+// of the rows that traded.
 pub(crate) fn settle(
     tallies: [Tally; 9],
     allocation: u32,

@@ -77,8 +77,8 @@ fn refusal(s: Session, tenant: u32, count: u32, numbers: &[u32]) -> u32
     }
 }
 
-// A bulk joins the tenant's lane whole, or is refused. The book is not lent; of a sound market submit asks just the part that does not speak of it,
-// the lanes (`lanes-sound`).
+// A bulk joins the tenant's lane whole, or is refused. The book is not lent; of a sound market submit asks just the
+// part that does not speak of it, the lanes (`lanes-sound`).
 pub fn submit(
     s: Session,
     tenant: u32,

@@ -317,7 +317,8 @@ fn entry_turn(
     }
 }
 
-// The call turn, with its fill records written as plain numbers, four to a record. `lent` is how many records the caller has room for.
+// The call turn, with its fill records written as plain numbers, four to a record. `lent` is how many records the
+// caller has room for.
 pub fn turn_core(
     s: Session,
     sides: &mut Column,

@@ -1,4 +1,5 @@
--- A local array of plain records, as what a `&mut` slice of it borrows, and back. It says nothing of the crate, and can be copied as it stands.
+-- A local array of plain records, as what a `&mut` slice of it borrows, and back. It says nothing of the crate, and can
+-- be copied as it stands.
 --     row-laid     the cell of a local array with the machine value of ys  ⊢  the elements ys lie there, side by side
 --     row-found    n elements ys lie there  ⊢  the cell of a local array with their machine value, and the array's relation
 -- `Denote/Lend.antt`'s `lends-slice` takes the first's right side, and its `slice-back` gives the second's left side.

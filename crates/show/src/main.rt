@@ -1,4 +1,5 @@
-// The worked example of the paper, each turn called with a row of fills that is lent; the fills of both turns are printed.
+// The worked example of the paper, each turn called with a row of fills that is lent; the fills of both turns are
+// printed.
 use entry::Settings;
 use fills::Fill;
 use fills::turn;

@@ -1,4 +1,5 @@
--- Laws of the tallies: what stands where after adding, adding twice, adding for one tenant, and the sums over all tenants.
+-- Laws of the tallies: what stands where after adding, adding twice, adding for one tenant, and the sums over all
+-- tenants.
 use mathlib.Core.Path.{_≡_, refl, sym, ap, _∙_}
 use mathlib.Core.List.{List, [], _∷_}
 use Prim.Native.Nat.{ℕ, zero, suc, _+_, _≤_, _<_}

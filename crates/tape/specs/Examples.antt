@@ -9,8 +9,8 @@ use Rattle.tape.specs.declared.Event.the-variants.{Settings, Submit, Tur
 use Rattle.tape.specs.declared.Reading.the-variants.{Read, Refused, End}
 use Rattle.tape.specs.Tape.{numbers, settings, away, entries, submit, formOf, event, reading, eventAt, numbersAt, entriesOf, stored, entriesAfter, settingsOf}
 
--- time class, grid 1, call, strike 10000, D 10, F 20, x 10, least 25, greatest 500, no prints; open; tenant 2 buys 5 at 100 for the day;
--- tenant 7 sells 3 at 100 now; three turns
+-- time class, grid 1, call, strike 10000, D 10, F 20, x 10, least 25, greatest 500, no prints; open; tenant 2 buys 5 at
+-- 100 for the day; tenant 7 sells 3 at 100 now; three turns
 abbrev example : List ℕ
 example =
     1 ∷ 1 ∷ 1 ∷ 1 ∷ 0x90 ∷ 0x4e ∷ 10 ∷ 20 ∷ 10 ∷ 25 ∷ 0xf4 ∷ 0x03 ∷ 0 ∷ 0
@@ -31,8 +31,8 @@ worked :
 unfolding numberIn numberAt numbers settings away entries submit formOf event reading eventAt numbersAt entriesOf stored entriesAfter _and_ from1to
 worked = (refl, refl, refl, refl, refl, refl, refl)
 
--- 33 another event number, 6 or 133 (whose first group is 5), and 34 a count of 0 or 21, each as soon as it is read and at its own place; a
--- count of 20 goes on to its entries
+-- 33 another event number, 6 or 133 (whose first group is 5), and 34 a count of 0 or 21, each as soon as it is read and
+-- at its own place; a count of 20 goes on to its entries
 refusals :
     (eventAt (0x80 ∷ 0x00 ∷ []) 0 ≡ Refused 31 0) ×
     (eventAt (6 ∷ []) 0 ≡ Refused 33 0) × (eventAt (0 ∷ []) 0 ≡ Refused 33 0) × (eventAt (4 ∷ 0x85 ∷ 0x01 ∷ []) 1 ≡ Refused 33 1) ×

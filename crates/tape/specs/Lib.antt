@@ -1,4 +1,5 @@
--- What the tape reader promises: the form of events and the event at a place, and how the bytes and what is read of them fit together.
+-- What the tape reader promises: the form of events and the event at a place, and how the bytes and what is read of
+-- them fit together.
 pub mod Tape
 pub mod Several
 pub mod Steps

@@ -1,4 +1,5 @@
--- What is read is determined by the bytes it was read from, and determines them: an event has just one list of numbers, and these just one spelling.
+-- What is read is determined by the bytes it was read from, and determines them: an event has just one list of numbers,
+-- and these just one spelling.
 use mathlib.Core.Path.{_≡_, refl, sym, ap, ap₂, _∙_, subst}
 use mathlib.Core.Bool.{Bool, true, false}
 use mathlib.Core.List.{List, [], _∷_, _++_, append-assoc}
@@ -215,7 +216,8 @@ back-in (more f) front (v ∷ vs) rest last e fit l =
       ap (λ (ws : List ℕ). v ∷ ws) (i .1),
     )
 
--- and the bytes determine what is read: numbers that make an event, encoded, are read as that event, wherever they stand and whatever stands behind
+-- and the bytes determine what is read: numbers that make an event, encoded, are read as that event, wherever they
+-- stand and whatever stands behind
 pub read-back :
     (front vs rest : List ℕ) (e : Event) → Fit vs → Spells vs e →
     (eventAt (front ++ (encodeAll vs ++ rest)) (length front) ≡ Read e (length front + length (encodeAll vs))) ×
@@ -224,7 +226,8 @@ read-back front vs rest e fit l =
     let i = back-in event front vs rest (length front) e fit (spells-leads vs e l) in
     (event-of-form (front ++ (encodeAll vs ++ rest)) (length front) e _ (i .0), ap entriesOf (i .1))
 
--- a submit that is read: its count is 1 to 20, and lent memory that reaches holds six numbers for each entry at its front
+-- a submit that is read: its count is 1 to 20, and lent memory that reaches holds six numbers for each entry at its
+-- front
 pub submitted :
     (s : List ℕ) (at tenant count end : ℕ) (out : List ℕ) → eventAt s at ≡ Read (Submit tenant count) end → entryNumbers * bulk ≤ length out →
     (1 ≤ count) × (count ≤ bulk) × (length (entriesAt s at) ≡ entryNumbers * count) × (take (entryNumbers * count) (entriesAfter s at out) ≡ entriesAt s at)

@@ -1,5 +1,5 @@
--- Where an event ends, and what of a tape it depends on: 615 bytes from its place are enough, and bytes before it move its place alone. So a
--- program may read a tape of any length through a buffer.
+-- Where an event ends, and what of a tape it depends on: 615 bytes from its place are enough, and bytes before it move
+-- its place alone. So a program may read a tape of any length through a buffer.
 use mathlib.Core.Path.{_≡_, refl, sym, ap, _∙_}
 use mathlib.Core.Logic.{_⊎_, inl, inr, ⊎-elim}
 use mathlib.Core.List.{List, [], _∷_, _++_, append-nil}
@@ -186,8 +186,8 @@ event-moved front s at =
       λ out. ap (λ (vs : List ℕ). stored (entriesOf vs) out) (i .1),
     )
 
--- so a tape may be read through a buffer that holds a part of it: with 615 bytes left in the buffer, or all that the tape has, the event in the
--- buffer is the tape's
+-- so a tape may be read through a buffer that holds a part of it: with 615 bytes left in the buffer, or all that the
+-- tape has, the event in the buffer is the tape's
 pub buffered :
     (front buffer rest : List ℕ) (at : ℕ) → (at + mostBytes ≤ length buffer) ⊎ (rest ≡ []) →
     (eventAt (front ++ (buffer ++ rest)) (length front + at) ≡ moved (length front) (eventAt buffer at)) ×
@@ -198,7 +198,8 @@ buffered front buffer rest at enough =
     = ⊎-elim (window buffer rest at) (λ e. let all : buffer ++ rest ≡ buffer = ap (λ (r : List ℕ). buffer ++ r) e ∙ append-nil buffer in rw all (refl, λ out. refl)) enough in
     (m .0 ∙ ap (moved (length front)) (w .0), λ out. m .1 out ∙ w .1 out)
 
--- the place of a refusal is that of a number of the event, or the tape's length where the number is missing altogether, by 30
+-- the place of a refusal is that of a number of the event, or the tape's length where the number is missing altogether,
+-- by 30
 refused-in :
     (form : Form) (s : List ℕ) (last at code p : ℕ) → last < at → at ≤ length s → reading form s last at ≡ Refused code p →
     (last ≤ p) × (p ≤ length s) × (p ≡ length s → code ≡ 30)

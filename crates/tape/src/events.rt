@@ -113,8 +113,8 @@ fn submit(s: &[u8], at: usize, numbers: &mut [u32]) -> Reading
     }
 }
 
-// The event at a place of a tape, or the refusal of the number that is bad. The numbers of a bulk's entries are stored from the
-// front of the lent memory, as far as it reaches.
+// The event at a place of a tape, or the refusal of the number that is bad. The numbers of a bulk's entries are stored
+// from the front of the lent memory, as far as it reaches.
 pub fn event(s: &[u8], at: usize, numbers: &mut [u32]) -> Reading
     ensures answer { λ r. ⌜ r ≡ eventAt (now (s .entry)) at ⌝ }
     ensures entries { λ _. ⌜ now (numbers .exit) ≡ entriesAfter (now (s .entry)) at (now (numbers .entry)) ⌝ }

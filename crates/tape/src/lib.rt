@@ -1,4 +1,5 @@
-// The tape's events, one out of the bytes at a place: what happens, with its numbers and the place after it, or why it cannot be read.
+// The tape's events, one out of the bytes at a place: what happens, with its numbers and the place after it, or why it
+// cannot be read.
 use entry::Away;
 use entry::Settings;
 
@@ -14,7 +15,8 @@ pub enum Event {
     Open,
 }
 
-// An event with the place after its last number, or a refusal with the place of the bad number, or the tape's end between two events.
+// An event with the place after its last number, or a refusal with the place of the bad number, or the tape's end
+// between two events.
 pub enum Reading {
     Read(Event, usize),
     Refused(u32, usize),

@@ -1,7 +1,10 @@
--- `fills::open` meets its contract: a walk of its MIR, by hand. It calls `open_core`, `open_fills` and `store_all`, of which the proof knows only that each meets its contract.
--- The columns are passed on at their own lifetimes, shares and ghost names: each `&mut` is given up for good, and what `open_core` says of its last value is what `open` says of it at exit. All that is had of them, the tokens and the borrows, is one entry of the context, `Lent`, and after the call `Left`: only `enters`, `goes-core`, `back-core` and `exits` take it apart.
--- The flat records are a local: lent as a `&mut` to `open_core` for a lifetime that the walk makes, and, once that is over, as a `&` to `store_all` for another.
--- Assumes nothing.
+-- `fills::open` meets its contract: a walk of its MIR, by hand. It calls `open_core`, `open_fills` and `store_all`, of
+-- which the proof knows only that each meets its contract. The columns are passed on at their own lifetimes, shares and
+-- ghost names: each `&mut` is given up for good, and what `open_core` says of its last value is what `open` says of it
+-- at exit. All that is had of them, the tokens and the borrows, is one entry of the context, `Lent`, and after the call
+-- `Left`: only `enters`, `goes-core`, `back-core` and `exits` take it apart. The flat records are a local: lent as a
+-- `&mut` to `open_core` for a lifetime that the walk makes, and, once that is over, as a `&` to `store_all` for
+-- another. Assumes nothing.
 use mathlib.Core.Path.{_≡_, refl, sym, ap, subst}
 use Prim.Native.Nat.{ℕ}
 use mathlib.Core.List.{[], _∷_, List}
@@ -186,7 +189,8 @@ module _ {M : Type 1} (𝓤 : URA M) (H : Heap 𝓤) (A : Atoms 𝓤) (W : Given
   enters =
       qed W (‵ (Tokens κ₅ q₅) ∷ ‵ (owns (RS ∷ ShrRef (named 0) κ₀ A-216 ∷ ShrRef (named 1) κ₁ A-216 ∷ MutRef (named 2) κ₂ A-216 ∷ ShrRef (named 3) κ₃ A-216 ∷ ShrRef (named 4) κ₄ A-216 ∷ MutSlice (named 5) κ₅ RF ∷ []) a vals) ∷ []) ∵
       fsplit ! $ move ! (1 ∷ []) $ fsplit ! $ move ! (1 ∷ []) $ fsplit ! $ move ! (1 ∷ []) $ fsplit ! $ move ! (1 ∷ []) $ fsplit ! $ move ! (1 ∷ []) $ fsplit ! $ move ! (7 ∷ []) $ fsplit ! $ move ! (1 ∷ []) $ fsplit ! $ move ! (1 ∷ []) $ fsplit ! $ move ! (1 ∷ []) $ fsplit ! $ move ! (1 ∷ []) $ fsplit ! $ move ! (1 ∷ []) $ fsplit ! $ move ! (1 ∷ []) $ fsplit ! $
-      -- [row; true′; numbers; owners; sizes; prices; sides; session; row's token; true; token of numbers; token of owners; token of sizes; token of prices; token of sides]
+      -- [row; true′; numbers; owners; sizes; prices; sides; session; row's token; true; token of numbers; token of
+      -- owners; token of sizes; token of prices; token of sides]
       keep ! (14 ∷ 13 ∷ 12 ∷ 11 ∷ 10 ∷ 6 ∷ 5 ∷ 4 ∷ 3 ∷ 2 ∷ 8 ∷ 0 ∷ []) $ group ! 10 $ done !
 
   -- what each callee's triple binds outside, and that the caller has what it asks
@@ -200,7 +204,8 @@ module _ {M : Type 1} (𝓤 : URA M) (H : Heap 𝓤) (A : Atoms 𝓤) (W : Given
   goes-core ν l δ =
       qed W (‵ Lent ∷ ‵ (flft (ν ∷ []) fullShare) ∷ ‵ (MutRef (named 5) (ν ∷ []) AR .own (xr l δ zeros) (vptr l 0 ∷ [])) ∷ []) ∵ says-two ! ok (length-replicate {A = ℕ} 864 0) $
       fsplit ! $ move ! (1 ∷ []) $ fsplit ! $ move ! (1 ∷ []) $ fsplit ! $ move ! (1 ∷ []) $ fsplit ! $ move ! (1 ∷ []) $ fsplit ! $ move ! (1 ∷ []) $ fsplit ! $ move ! (1 ∷ []) $ fsplit ! $ move ! (1 ∷ []) $ fsplit ! $ move ! (1 ∷ []) $ fsplit ! $ nothing ! $ nothing ! $ owned ! usize (Is usize) (uint-makes 𝓤 H A W w64) (length ys) _ (refl, room .0) $ owned ! RS (Is RS) (LL.makes S.the-type S′.the-plain 𝓤 H A) h _ is-h $
-      -- [session; room; true′; true; owners; numbers; sizes; prices; sides; token of numbers; token of owners; token of sizes; token of prices; token of sides; ν's token; flat]
+      -- [session; room; true′; true; owners; numbers; sizes; prices; sides; token of numbers; token of owners; token of
+      -- sizes; token of prices; token of sides; ν's token; flat]
       move ! (13 ∷ 12 ∷ 11 ∷ 10 ∷ 9 ∷ 14 ∷ 3 ∷ 0 ∷ 8 ∷ 7 ∷ 6 ∷ 4 ∷ 5 ∷ 1 ∷ 15 ∷ 2 ∷ []) $ group ! 7 $ move ! (1 ∷ 2 ∷ 3 ∷ 4 ∷ 5 ∷ 6 ∷ 7 ∷ 8 ∷ 9 ∷ []) $ group ! 9 $ move ! (1 ∷ 0 ∷ []) $ frame ! $ done !
 
   -- of what `open_core` leaves: the columns' part, the token and the last flat records
@@ -218,7 +223,8 @@ module _ {M : Type 1} (𝓤 : URA M) (H : Heap 𝓤) (A : Atoms 𝓤) (W : Given
   back-core ν l δ ws =
       qed W (‵ (Tokens (ν ∷ []) fullShare) ∷ ‵ (lasts open-core.ended (κ₀, (κ₁, (κ₂, (κ₃, (κ₄, (ν ∷ [], tt)))))) (arg-core l δ) ws) ∷ []) ∵
       fsplit ! $ move ! (1 ∷ []) $ fsplit ! $ move ! (1 ∷ []) $ fsplit ! $ move ! (1 ∷ []) $ fsplit ! $ move ! (1 ∷ []) $ fsplit ! $ move ! (1 ∷ []) $ fsplit ! $ move ! (7 ∷ []) $ fsplit ! $ move ! (1 ∷ []) $ fsplit ! $ move ! (1 ∷ []) $ fsplit ! $ move ! (1 ∷ []) $ fsplit ! $ move ! (1 ∷ []) $ fsplit ! $ move ! (1 ∷ []) $ fsplit ! $ move ! (1 ∷ []) $ fsplit ! $ move ! (1 ∷ []) $ fsplit ! $
-      -- [flat; true′; room; numbers; owners; sizes; prices; sides; session; ν's token; true; token of numbers; token of owners; token of sizes; token of prices; token of sides]
+      -- [flat; true′; room; numbers; owners; sizes; prices; sides; session; ν's token; true; token of numbers; token of
+      -- owners; token of sizes; token of prices; token of sides]
       keep ! (15 ∷ 14 ∷ 13 ∷ 12 ∷ 11 ∷ 5 ∷ 9 ∷ 0 ∷ []) $ group ! 6 $ done !
 
   abbrev to-count : Opened → Val → Count 𝓤 H A at-mem run .Ghost
@@ -233,7 +239,8 @@ module _ {M : Type 1} (𝓤 : URA M) (H : Heap 𝓤) (A : Atoms 𝓤) (W : Given
       qed W (‵ (Left w) ∷ ‵ (flft κ₅ q₅) ∷ ‵ (finally RF (x .name) zs) ∷ ‵ (RT .own t (v ∷ [])) ∷ []) ∵
       suffices ! _ (ends-at 𝓤 H A this.ended stayed (this.clauses 𝓤 H A at-mem run) W (((κ₀, (κ₁, (κ₂, (κ₃, (κ₄, (κ₅, tt)))))), (q₀, (q₁, (q₂, (q₃, (q₄, (q₅, tt)))))), tt, a, vals), tt) v t (tt, (tt, (tt, (w .0, (tt, (tt, (zs, tt))))))) (tt, (tt, (tt, (tt, (tt, (tt, (l, tt)))))))) $ says-two ! e e′ $
       fsplit ! $ move ! (1 ∷ []) $ fsplit ! $ move ! (1 ∷ []) $ fsplit ! $ move ! (1 ∷ []) $ fsplit ! $ move ! (1 ∷ []) $ fsplit ! $ nothing ! $ nothing ! $ nothing ! $ nothing ! $ nothing ! $ nothing ! $ nothing ! $
-      -- [true6; true5; true4; true3; true2; true1; true0; token of numbers; sizes; token of owners; token of sizes; token of prices; token of sides; row's token; row; result]
+      -- [true6; true5; true4; true3; true2; true1; true0; token of numbers; sizes; token of owners; token of sizes;
+      -- token of prices; token of sides; row's token; row; result]
       move ! (12 ∷ 11 ∷ 10 ∷ 9 ∷ 7 ∷ 13 ∷ 6 ∷ 5 ∷ 3 ∷ 2 ∷ 8 ∷ 1 ∷ 0 ∷ 14 ∷ 4 ∷ 15 ∷ []) $ group ! 7 $ frame ! $ group ! 8 $ done !
 
   module _ (C : Calls 𝓤 H) (Λ : Loops 𝓤 H) (fm : FmC 𝓤 H (W .laws) C) (known-core : Triple 𝓤 (C #session·open·open-core) (Core 𝓤 H A at-mem run)) (known-count : Triple 𝓤 (C #fills·open-fills) (Count 𝓤 H A at-mem run)) (known-store : Triple 𝓤 (C #fills·store-all) (StoreAll 𝓤 H A at-mem run)) where
@@ -250,7 +257,8 @@ module _ {M : Type 1} (𝓤 : URA M) (H : Heap 𝓤) (A : Atoms 𝓤) (W : Given
         -- `open_core`: the flat records are lent for a lifetime ν of the call
         move ! (18 ∷ []) $ use1 W (‵ (partAt AR fullShare zeros l₈ 0)) (array-laid u32 (uint-vals w32) (uint-tells w32) 864 𝓤 H A W (uint-makes 𝓤 H A W w32) zeros mach-0 l₈ 0 is-0) $ lft-new ! tt (λ ν. move ! (1 ∷ []) $
         use1 W (later (some (λ (δ : GName). ‵ (MutRef (named 5) (ν ∷ []) AR .own (xr l₈ δ zeros) (vptr l₈ 0 ∷ [])) ⊛ ‵ (flent (ν ∷ []) (Body (mem AR) l₈ 0 δ))))) (lends-ref 𝓤 H A W AR (named 5) (ν ∷ []) zeros l₈ 0) $ await ! tt $ pick ! (λ δ. split ! $
-        -- [the flat records, lent; the lender's part; ν's token; the locals, with no cell of _8; the columns; the row's token; what the row owns]
+        -- [the flat records, lent; the lender's part; ν's token; the locals, with no cell of _8; the columns; the row's
+        -- token; what the row owns]
         move ! (38 ∷ 2 ∷ 0 ∷ []) $ use3 W (raw (Core 𝓤 H A at-mem run .pre (to-core ν l₈ δ))) (goes-core ν l₈ δ) $
         -- [the callee's `pre`; the lender's part; the locals; the row's token; what the row owns]
         calls-at ! fm (Core 𝓤 H A at-mem run) known-core (to-core ν l₈ δ) (and-then ! (load ! (from ! (stop !)) (look ! 33 refl)) (and-then ! (load ! (from ! (stop !)) (look ! 31 refl)) (and-then ! (load ! (from ! (stop !)) (look ! 29 refl)) (and-then ! (load ! (from ! (stop !)) (look ! 14 refl)) (and-then ! (load ! (from ! (stop !)) (look ! 25 refl)) (and-then ! (load ! (from ! (stop !)) (look ! 23 refl)) (and-then ! (load ! (from ! (stop !)) (look ! 12 refl)) (and-then ! (load ! (from ! (stop !)) (look ! 10 refl)) (no-more !))))))))) (λ v.
@@ -258,7 +266,8 @@ module _ {M : Type 1} (𝓤 : URA M) (H : Heap 𝓤) (A : Atoms 𝓤) (W : Given
         split ! $ move ! (1 ∷ []) $ use1 W (some (λ (ws : Lasts-core). ‵ (lasts open-core.ended (κ₀, (κ₁, (κ₂, (κ₃, (κ₄, (ν ∷ [], tt)))))) (arg-core l₈ δ) ws) ⊛ (raw (fact 𝓤 (Exact t (each ws) (last ws))) ⊛ raw (fact 𝓤 (StaysSound t (each ws)))))) (id⊢ 𝓤 _) $ pick ! (λ ws.
         split ! $ move ! (1 ∷ []) $ split ! $ heard ! (Exact t (each ws) (last ws)) (λ ec. heard ! (StaysSound t (each ws)) (λ es. move ! (1 ∷ []) $ split ! $ move ! (1 ∷ []) $ peeks ! RT (Is RT) (shows 𝓤 H A RT) t (v ∷ []) (λ is-t.
         drop ! $ use2 W (‵ (Left (each ws)) ⊛ ‵ (flft (ν ∷ []) fullShare) ⊛ ‵ (fres δ (AR .coded .code (last ws)))) (back-core ν l₈ δ ws) $ split3 ! $
-        -- [the columns, left; ν's token; the last flat records; the lender's part; the locals; the row's token; what the row owns]
+        -- [the columns, left; ν's token; the last flat records; the lender's part; the locals; the row's token; what
+        -- the row owns]
         land ! (from ! (stop !)) (init ! 20 refl (typed-t t v is-t)) $
         -- the lifetime is ended, and the local is back at the last flat records
         move ! (1 ∷ []) $ lft-end ! tt $ move ! (0 ∷ 3 ∷ 2 ∷ []) $ use3 W (later (‵ (partAt AR fullShare (last ws) l₈ 0))) (ref-back 𝓤 H A W AR (ν ∷ []) δ (last ws) l₈ 0) $ await ! tt $
@@ -276,7 +285,8 @@ module _ {M : Type 1} (𝓤 : URA M) (H : Heap 𝓤) (A : Atoms 𝓤) (W : Given
         -- `store_all`: they are lent again, shared, for a lifetime μ of the call
         lft-new ! tt (λ μ. move ! (1 ∷ []) $
         use1 W (later (some (λ (ε : GName). ‵ (ShrRef (named 1) (μ ∷ []) AR .own (xr l₈ ε (last ws)) (vptr l₈ 0 ∷ [])) ⊛ ‵ (flent (μ ∷ []) (partAt AR fullShare (last ws) l₈ 0))))) (lends-shr 𝓤 H A W AR (named 1) (μ ∷ []) fullShare (last ws) l₈ 0) $ await ! tt $ pick ! (λ ε. split ! $
-        -- [the flat records, shared; the lender's part; μ's token; the columns, left; the locals; the row's token; what the row owns]
+        -- [the flat records, shared; the lender's part; μ's token; the columns, left; the locals; the row's token; what
+        -- the row owns]
         move ! (39 ∷ 40 ∷ 2 ∷ 0 ∷ []) $ group ! 4 $ use1 W (raw (StoreAll 𝓤 H A at-mem run .pre (to-store 𝓤 H A at-mem run κ₅ q₅ x k μ l₈ ε (last ws)))) (goes-store 𝓤 H A W at-mem run κ₅ q₅ x k μ l₈ ε (last ws) (fits t (each ws) (last ws) k ec ek)) $
         -- [the callee's `pre`; the lender's part; the columns, left; the locals]
         calls-at ! fm (StoreAll 𝓤 H A at-mem run) known-store (to-store 𝓤 H A at-mem run κ₅ q₅ x k μ l₈ ε (last ws)) (and-then ! (load ! (from ! (stop !)) (look ! 5 refl)) (and-then ! (load ! (from ! (stop !)) (look ! 3 refl)) (and-then ! (load ! (from ! (stop !)) (look ! 17 refl)) (no-more !)))) (λ y.

@@ -1,7 +1,8 @@
--- `fills::store_all` meets its contract: a walk of its MIR, by hand, with a loop. The borrow is opened once, before the loop, and closed once, after it. A turn takes one element out of the row, stores to it what `record_at` returns, and puts it back.
--- The flat records are a `&[u32; 864]`, which is Copy: what it owns is doubled at each turn, and one is passed to `record_at` with its lifetime's token, which comes back.
--- The loop's invariant: the row is `stored rs i`, and i is at most the count. Of `record_at` the proof knows only that it meets its contract.
--- Assumes nothing.
+-- `fills::store_all` meets its contract: a walk of its MIR, by hand, with a loop. The borrow is opened once, before the
+-- loop, and closed once, after it. A turn takes one element out of the row, stores to it what `record_at` returns, and
+-- puts it back. The flat records are a `&[u32; 864]`, which is Copy: what it owns is doubled at each turn, and one is
+-- passed to `record_at` with its lifetime's token, which comes back. The loop's invariant: the row is `stored rs i`,
+-- and i is at most the count. Of `record_at` the proof knows only that it meets its contract. Assumes nothing.
 use mathlib.Core.Path.{_≡_, refl, sym, ap, subst}
 use Prim.Native.Nat.{ℕ, _+_, _*_, _-_, _<_, _≤_, _^_, zero-le}
 use native.Mathlib.Nat.{le-antisymm}
@@ -211,7 +212,8 @@ module _ {M : Type 1} (𝓤 : URA M) (H : Heap 𝓤) (A : Atoms 𝓤) (W : Given
         calls-at ! (fmOf 𝓤 H (W .laws) 𝓣) (RecordAt 𝓤 H A mem run) known (to-record i) (and-then ! (load ! (from ! (stop !)) (look ! 9 refl)) (and-then ! (load ! (from ! (stop !)) (look ! 3 refl)) (no-more !))) (λ v.
         use1 W (later (some (λ (f : Fill). ((‵ (flft κ₂ q₂) ⊛ ‵ ftrue) ⊛ ‵ (R .own f (v ∷ []))) ⊛ raw (ensured 𝓤 H A record-at.ended (record-at.clauses 𝓤 H A mem run) (κ₂, tt) (x₂, (i, tt)) tt f)))) (id⊢ 𝓤 _) $ await ! tt $ pick ! (λ f.
         split ! $ move ! (1 ∷ []) $ use1 W (raw (fact 𝓤 (f ≡ fillAt rs i))) (record-of 𝓤 H A mem run κ₂ x₂ i f) $ heard ! (f ≡ fillAt rs i) (λ e. split ! $ split ! $
-        -- [the token; true; what the record owns; what the reference owns; the rest]: the last two of the invariant go to its end
+        -- [the token; true; what the record owns; what the reference owns; the rest]: the last two of the invariant go
+        -- to its end
         keep ! (2 ∷ 4 ∷ 5 ∷ 6 ∷ 7 ∷ 8 ∷ 9 ∷ 10 ∷ 11 ∷ 12 ∷ 13 ∷ 14 ∷ 15 ∷ 16 ∷ 17 ∷ 18 ∷ 19 ∷ 20 ∷ 21 ∷ 22 ∷ 23 ∷ 24 ∷ 25 ∷ 3 ∷ 0 ∷ []) $
         rewrite ! 0 (λ (g : Fill). ‵ (R .own g (v ∷ []))) e refl $ peeks ! R (Is R) (shows 𝓤 H A R) (fillAt rs i) (v ∷ []) (λ is.
         -- [what the record owns; the row; _4; _5; _6; _7; _8; _1; _2; _3; _0; …]
@@ -248,7 +250,8 @@ module _ {M : Type 1} (𝓤 : URA M) (H : Heap 𝓤) (A : Atoms 𝓤) (W : Given
       enter ! (𝓣 .C) (𝓣 .Λ) code.function (s ∷ p₂ ∷ vint w64 n ∷ []) _ $
       alloc1 ! (λ l₀. alloc1 ! (λ l₁. alloc1 ! (λ l₂. alloc1 ! (λ l₃. alloc1 ! (λ l₄. alloc1 ! (λ l₅. alloc1 ! (λ l₆. alloc1 ! (λ l₇. alloc1 ! (λ l₈. alloc0 ! $ params1 ! $
       pass1 ! (init ! 14 refl (tt, (tt, (record { fits = room .0 }, tt)))) $ pass1 ! (init ! 12 refl (tt, tt)) $ pass1 ! (init ! 10 refl (tt, record { fits = n-fits })) $ pass0 ! $
-      -- [_8; …; _7; …; _6; …; _5; …; _4; …; _3; …; _2; …; _1; …; room for _0; …; obs; the borrow; the token; what the reference owns; its token]
+      -- [_8; …; _7; …; _6; …; _5; …; _4; …; _3; …; _2; …; _1; …; room for _0; …; obs; the borrow; the token; what the
+      -- reference owns; its token]
       assigns ! (of-opd ! (lit ! tt)) (from ! (stop !)) (init ! 8 refl (tt, record { fits = lit< tt })) $
       move ! (18 ∷ 19 ∷ 20 ∷ []) $ opens-slice ! tt R ys b o $
       -- [the row; the open borrow; obs; auth; _8; …]

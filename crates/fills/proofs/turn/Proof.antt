@@ -1,7 +1,10 @@
--- `fills::turn` meets its contract: a walk of its MIR, by hand. It calls `turn_core`, `turn_fills` and `store_all`, of which the proof knows only that each meets its contract.
--- The columns are passed on at their own lifetimes, shares and ghost names: each `&mut` is given up for good, and what `turn_core` says of its last value is what `turn` says of it at exit. All that is had of them, the tokens and the borrows, is one entry of the context, `Lent`, and after the call `Left`: only `enters`, `goes-core`, `back-core` and `exits` take it apart.
--- The flat records are a local: lent as a `&mut` to `turn_core` for a lifetime that the walk makes, and, once that is over, as a `&` to `store_all` for another.
--- Assumes nothing.
+-- `fills::turn` meets its contract: a walk of its MIR, by hand. It calls `turn_core`, `turn_fills` and `store_all`, of
+-- which the proof knows only that each meets its contract. The columns are passed on at their own lifetimes, shares and
+-- ghost names: each `&mut` is given up for good, and what `turn_core` says of its last value is what `turn` says of it
+-- at exit. All that is had of them, the tokens and the borrows, is one entry of the context, `Lent`, and after the call
+-- `Left`: only `enters`, `goes-core`, `back-core` and `exits` take it apart. The flat records are a local: lent as a
+-- `&mut` to `turn_core` for a lifetime that the walk makes, and, once that is over, as a `&` to `store_all` for
+-- another. Assumes nothing.
 use mathlib.Core.Path.{_≡_, refl, sym, ap, subst}
 use Prim.Native.Nat.{ℕ}
 use mathlib.Core.List.{[], _∷_, List}
@@ -192,7 +195,8 @@ module _ {M : Type 1} (𝓤 : URA M) (H : Heap 𝓤) (A : Atoms 𝓤) (W : Given
   enters =
       qed W (‵ (Tokens κ₆ q₆) ∷ ‵ (owns (RS ∷ MutRef (named 0) κ₀ A-216 ∷ MutRef (named 1) κ₁ A-216 ∷ MutRef (named 2) κ₂ A-216 ∷ MutRef (named 3) κ₃ A-216 ∷ MutRef (named 4) κ₄ A-216 ∷ ShrRef (named 5) κ₅ A-3456 ∷ MutSlice (named 6) κ₆ RF ∷ []) a vals) ∷ []) ∵
       fsplit ! $ move ! (1 ∷ []) $ fsplit ! $ move ! (1 ∷ []) $ fsplit ! $ move ! (1 ∷ []) $ fsplit ! $ move ! (1 ∷ []) $ fsplit ! $ move ! (1 ∷ []) $ fsplit ! $ move ! (1 ∷ []) $ fsplit ! $ move ! (8 ∷ []) $ fsplit ! $ move ! (1 ∷ []) $ fsplit ! $ move ! (1 ∷ []) $ fsplit ! $ move ! (1 ∷ []) $ fsplit ! $ move ! (1 ∷ []) $ fsplit ! $ move ! (1 ∷ []) $ fsplit ! $ move ! (1 ∷ []) $ fsplit ! $ move ! (1 ∷ []) $ fsplit ! $
-      -- [row; true′; entries; numbers; owners; sizes; prices; sides; session; row's token; true; token of entries; token of numbers; token of owners; token of sizes; token of prices; token of sides]
+      -- [row; true′; entries; numbers; owners; sizes; prices; sides; session; row's token; true; token of entries;
+      -- token of numbers; token of owners; token of sizes; token of prices; token of sides]
       keep ! (16 ∷ 15 ∷ 14 ∷ 13 ∷ 12 ∷ 11 ∷ 7 ∷ 6 ∷ 5 ∷ 4 ∷ 3 ∷ 2 ∷ 9 ∷ 0 ∷ []) $ group ! 12 $ done !
 
   -- what each callee's triple binds outside, and that the caller has what it asks
@@ -206,7 +210,8 @@ module _ {M : Type 1} (𝓤 : URA M) (H : Heap 𝓤) (A : Atoms 𝓤) (W : Given
   goes-core ν l δ =
       qed W (‵ Lent ∷ ‵ (flft (ν ∷ []) fullShare) ∷ ‵ (MutRef (named 6) (ν ∷ []) AR .own (xr l δ zeros) (vptr l 0 ∷ [])) ∷ []) ∵ says-two ! ok (length-replicate {A = ℕ} 864 0) $
       fsplit ! $ move ! (1 ∷ []) $ fsplit ! $ move ! (1 ∷ []) $ fsplit ! $ move ! (1 ∷ []) $ fsplit ! $ move ! (1 ∷ []) $ fsplit ! $ move ! (1 ∷ []) $ fsplit ! $ move ! (1 ∷ []) $ fsplit ! $ move ! (1 ∷ []) $ fsplit ! $ move ! (1 ∷ []) $ fsplit ! $ move ! (1 ∷ []) $ fsplit ! $ move ! (1 ∷ []) $ fsplit ! $ nothing ! $ nothing ! $ owned ! usize (Is usize) (uint-makes 𝓤 H A W w64) (length ys) _ (refl, room .0) $ owned ! RS (Is RS) (LL.makes S.the-type S′.the-plain 𝓤 H A) h _ is-h $
-      -- [session; room; true′; true; numbers; entries; owners; sizes; prices; sides; token of entries; token of numbers; token of owners; token of sizes; token of prices; token of sides; ν's token; flat]
+      -- [session; room; true′; true; numbers; entries; owners; sizes; prices; sides; token of entries; token of
+      -- numbers; token of owners; token of sizes; token of prices; token of sides; ν's token; flat]
       move ! (15 ∷ 14 ∷ 13 ∷ 12 ∷ 11 ∷ 10 ∷ 16 ∷ 3 ∷ 0 ∷ 9 ∷ 8 ∷ 7 ∷ 6 ∷ 4 ∷ 5 ∷ 1 ∷ 17 ∷ 2 ∷ []) $ group ! 8 $ move ! (1 ∷ 2 ∷ 3 ∷ 4 ∷ 5 ∷ 6 ∷ 7 ∷ 8 ∷ 9 ∷ 10 ∷ []) $ group ! 10 $ move ! (1 ∷ 0 ∷ []) $ frame ! $ done !
 
   -- of what `turn_core` leaves: the columns' part, the token and the last flat records
@@ -224,7 +229,8 @@ module _ {M : Type 1} (𝓤 : URA M) (H : Heap 𝓤) (A : Atoms 𝓤) (W : Given
   back-core ν l δ ws =
       qed W (‵ (Tokens (ν ∷ []) fullShare) ∷ ‵ (lasts turn-core.ended (κ₀, (κ₁, (κ₂, (κ₃, (κ₄, (κ₅, (ν ∷ [], tt))))))) (arg-core l δ) ws) ∷ []) ∵
       fsplit ! $ move ! (1 ∷ []) $ fsplit ! $ move ! (1 ∷ []) $ fsplit ! $ move ! (1 ∷ []) $ fsplit ! $ move ! (1 ∷ []) $ fsplit ! $ move ! (1 ∷ []) $ fsplit ! $ move ! (1 ∷ []) $ fsplit ! $ move ! (8 ∷ []) $ fsplit ! $ move ! (1 ∷ []) $ fsplit ! $ move ! (1 ∷ []) $ fsplit ! $ move ! (1 ∷ []) $ fsplit ! $ move ! (1 ∷ []) $ fsplit ! $ move ! (1 ∷ []) $ fsplit ! $ move ! (1 ∷ []) $ fsplit ! $ move ! (1 ∷ []) $ fsplit ! $ move ! (1 ∷ []) $ fsplit ! $
-      -- [flat; true′; room; entries; numbers; owners; sizes; prices; sides; session; ν's token; true; token of entries; token of numbers; token of owners; token of sizes; token of prices; token of sides]
+      -- [flat; true′; room; entries; numbers; owners; sizes; prices; sides; session; ν's token; true; token of entries;
+      -- token of numbers; token of owners; token of sizes; token of prices; token of sides]
       keep ! (17 ∷ 16 ∷ 15 ∷ 14 ∷ 13 ∷ 12 ∷ 8 ∷ 7 ∷ 6 ∷ 5 ∷ 4 ∷ 10 ∷ 0 ∷ []) $ group ! 11 $ done !
 
   abbrev to-count : Turned → Val → Count 𝓤 H A at-mem run .Ghost
@@ -239,7 +245,8 @@ module _ {M : Type 1} (𝓤 : URA M) (H : Heap 𝓤) (A : Atoms 𝓤) (W : Given
       qed W (‵ (Left w) ∷ ‵ (flft κ₆ q₆) ∷ ‵ (finally RF (x .name) zs) ∷ ‵ (RT .own t (v ∷ [])) ∷ []) ∵
       suffices ! _ (ends-at 𝓤 H A this.ended stayed (this.clauses 𝓤 H A at-mem run) W (((κ₀, (κ₁, (κ₂, (κ₃, (κ₄, (κ₅, (κ₆, tt))))))), (q₀, (q₁, (q₂, (q₃, (q₄, (q₅, (q₆, tt))))))), tt, a, vals), tt) v t (tt, (w .0, (w .1 .0, (w .1 .1 .0, (w .1 .1 .1 .0, (w .1 .1 .1 .1 .0, (tt, (zs, tt)))))))) (tt, (tt, (tt, (tt, (tt, (tt, (tt, (l, tt))))))))) $ says-two ! e e′ $
       fsplit ! $ move ! (1 ∷ []) $ fsplit ! $ move ! (1 ∷ []) $ fsplit ! $ move ! (1 ∷ []) $ fsplit ! $ move ! (1 ∷ []) $ fsplit ! $ move ! (1 ∷ []) $ fsplit ! $ move ! (1 ∷ []) $ fsplit ! $ move ! (1 ∷ []) $ fsplit ! $ move ! (1 ∷ []) $ fsplit ! $ move ! (1 ∷ []) $ fsplit ! $ nothing ! $ nothing ! $ nothing ! $ nothing ! $
-      -- [true3; true2; true1; true0; owners; numbers; sizes; prices; sides; token of entries; token of numbers; token of owners; token of sizes; token of prices; token of sides; row's token; row; result]
+      -- [true3; true2; true1; true0; owners; numbers; sizes; prices; sides; token of entries; token of numbers; token
+      -- of owners; token of sizes; token of prices; token of sides; row's token; row; result]
       move ! (14 ∷ 13 ∷ 12 ∷ 11 ∷ 10 ∷ 9 ∷ 15 ∷ 3 ∷ 2 ∷ 8 ∷ 7 ∷ 6 ∷ 4 ∷ 5 ∷ 0 ∷ 16 ∷ 1 ∷ 17 ∷ []) $ group ! 8 $ frame ! $ group ! 9 $ done !
 
   module _ (C : Calls 𝓤 H) (Λ : Loops 𝓤 H) (fm : FmC 𝓤 H (W .laws) C) (known-core : Triple 𝓤 (C #session·turn·turn-core) (Core 𝓤 H A at-mem run)) (known-count : Triple 𝓤 (C #fills·turn-fills) (Count 𝓤 H A at-mem run)) (known-store : Triple 𝓤 (C #fills·store-all) (StoreAll 𝓤 H A at-mem run)) where
@@ -260,7 +267,8 @@ module _ {M : Type 1} (𝓤 : URA M) (H : Heap 𝓤) (A : Atoms 𝓤) (W : Given
         -- `turn_core`: the flat records are lent for a lifetime ν of the call
         move ! (26 ∷ []) $ use1 W (‵ (partAt AR fullShare zeros l₉ 0)) (array-laid u32 (uint-vals w32) (uint-tells w32) 864 𝓤 H A W (uint-makes 𝓤 H A W w32) zeros mach-0 l₉ 0 is-0) $ lft-new ! tt (λ ν. move ! (1 ∷ []) $
         use1 W (later (some (λ (δ : GName). ‵ (MutRef (named 6) (ν ∷ []) AR .own (xr l₉ δ zeros) (vptr l₉ 0 ∷ [])) ⊛ ‵ (flent (ν ∷ []) (Body (mem AR) l₉ 0 δ))))) (lends-ref 𝓤 H A W AR (named 6) (ν ∷ []) zeros l₉ 0) $ await ! tt $ pick ! (λ δ. split ! $
-        -- [the flat records, lent; the lender's part; ν's token; the locals, with no cell of _9; the columns; the row's token; what the row owns]
+        -- [the flat records, lent; the lender's part; ν's token; the locals, with no cell of _9; the columns; the row's
+        -- token; what the row owns]
         move ! (48 ∷ 2 ∷ 0 ∷ []) $ use3 W (raw (Core 𝓤 H A at-mem run .pre (to-core ν l₉ δ))) (goes-core ν l₉ δ) $
         -- [the callee's `pre`; the lender's part; the locals; the row's token; what the row owns]
         calls-at ! fm (Core 𝓤 H A at-mem run) known-core (to-core ν l₉ δ) (and-then ! (load ! (from ! (stop !)) (look ! 43 refl)) (and-then ! (load ! (from ! (stop !)) (look ! 22 refl)) (and-then ! (load ! (from ! (stop !)) (look ! 20 refl)) (and-then ! (load ! (from ! (stop !)) (look ! 18 refl)) (and-then ! (load ! (from ! (stop !)) (look ! 16 refl)) (and-then ! (load ! (from ! (stop !)) (look ! 14 refl)) (and-then ! (load ! (from ! (stop !)) (look ! 31 refl)) (and-then ! (load ! (from ! (stop !)) (look ! 12 refl)) (and-then ! (load ! (from ! (stop !)) (look ! 10 refl)) (no-more !)))))))))) (λ v.
@@ -268,7 +276,8 @@ module _ {M : Type 1} (𝓤 : URA M) (H : Heap 𝓤) (A : Atoms 𝓤) (W : Given
         split ! $ move ! (1 ∷ []) $ use1 W (some (λ (ws : Lasts-core). ‵ (lasts turn-core.ended (κ₀, (κ₁, (κ₂, (κ₃, (κ₄, (κ₅, (ν ∷ [], tt))))))) (arg-core l₉ δ) ws) ⊛ (raw (fact 𝓤 (Exact t (each ws) (last ws))) ⊛ raw (fact 𝓤 (StaysSound t (each ws)))))) (id⊢ 𝓤 _) $ pick ! (λ ws.
         split ! $ move ! (1 ∷ []) $ split ! $ heard ! (Exact t (each ws) (last ws)) (λ ec. heard ! (StaysSound t (each ws)) (λ es. move ! (1 ∷ []) $ split ! $ move ! (1 ∷ []) $ peeks ! RT (Is RT) (shows 𝓤 H A RT) t (v ∷ []) (λ is-t.
         drop ! $ use2 W (‵ (Left (each ws)) ⊛ ‵ (flft (ν ∷ []) fullShare) ⊛ ‵ (fres δ (AR .coded .code (last ws)))) (back-core ν l₉ δ ws) $ split3 ! $
-        -- [the columns, left; ν's token; the last flat records; the lender's part; the locals; the row's token; what the row owns]
+        -- [the columns, left; ν's token; the last flat records; the lender's part; the locals; the row's token; what
+        -- the row owns]
         land ! (from ! (stop !)) (init ! 28 refl (typed-t t v is-t)) $
         -- the lifetime is ended, and the local is back at the last flat records
         move ! (1 ∷ []) $ lft-end ! tt $ move ! (0 ∷ 3 ∷ 2 ∷ []) $ use3 W (later (‵ (partAt AR fullShare (last ws) l₉ 0))) (ref-back 𝓤 H A W AR (ν ∷ []) δ (last ws) l₉ 0) $ await ! tt $
@@ -286,7 +295,8 @@ module _ {M : Type 1} (𝓤 : URA M) (H : Heap 𝓤) (A : Atoms 𝓤) (W : Given
         -- `store_all`: they are lent again, shared, for a lifetime μ of the call
         lft-new ! tt (λ μ. move ! (1 ∷ []) $
         use1 W (later (some (λ (ε : GName). ‵ (ShrRef (named 1) (μ ∷ []) AR .own (xr l₉ ε (last ws)) (vptr l₉ 0 ∷ [])) ⊛ ‵ (flent (μ ∷ []) (partAt AR fullShare (last ws) l₉ 0))))) (lends-shr 𝓤 H A W AR (named 1) (μ ∷ []) fullShare (last ws) l₉ 0) $ await ! tt $ pick ! (λ ε. split ! $
-        -- [the flat records, shared; the lender's part; μ's token; the columns, left; the locals; the row's token; what the row owns]
+        -- [the flat records, shared; the lender's part; μ's token; the columns, left; the locals; the row's token; what
+        -- the row owns]
         move ! (49 ∷ 50 ∷ 2 ∷ 0 ∷ []) $ group ! 4 $ use1 W (raw (StoreAll 𝓤 H A at-mem run .pre (to-store 𝓤 H A at-mem run κ₆ q₆ x k μ l₉ ε (last ws)))) (goes-store 𝓤 H A W at-mem run κ₆ q₆ x k μ l₉ ε (last ws) (fits t (each ws) (last ws) k ec ek)) $
         -- [the callee's `pre`; the lender's part; the columns, left; the locals]
         calls-at ! fm (StoreAll 𝓤 H A at-mem run) known-store (to-store 𝓤 H A at-mem run κ₆ q₆ x k μ l₉ ε (last ws)) (and-then ! (load ! (from ! (stop !)) (look ! 5 refl)) (and-then ! (load ! (from ! (stop !)) (look ! 3 refl)) (and-then ! (load ! (from ! (stop !)) (look ! 25 refl)) (no-more !)))) (λ y.

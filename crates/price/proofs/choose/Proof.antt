@@ -1,4 +1,5 @@
--- `price::choose` meets its contract: what it answers is the first usable of the three, so it is the price that the definition chooses.
+-- `price::choose` meets its contract: what it answers is the first usable of the three, so it is the price that the
+-- definition chooses.
 use mathlib.Core.Path.{sym}
 use borrow.Author.Needs.{needs}
 use Rattle.price.specs.PriceLaws.{at-midpoint, at-print, at-close, nowhere, first-chosen}

@@ -1,5 +1,5 @@
--- `rehearse::main` is safe and ends: before each turn of its loop the market is sound, and what is printed and what is at hand lie in their memory.
--- The measure is the number of turns that are left.
+-- `rehearse::main` is safe and ends: before each turn of its loop the market is sound, and what is printed and what is
+-- at hand lie in their memory. The measure is the number of turns that are left.
 use mathlib.Core.Path.{sym}
 use Prim.Native.Nat.{ℕ}
 use native.Mathlib.Omega.{arith}

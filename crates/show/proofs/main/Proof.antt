@@ -1,4 +1,5 @@
--- `show::main` calls each call on a sound market: a new session is sound beside any columns, and each call leaves the market sound.
+-- `show::main` calls each call on a sound market: a new session is sound beside any columns, and each call leaves the
+-- market sound.
 use Prim.Native.Nat.{ℕ}
 use lib.ListN.{length-replicate}
 use borrow.Author.Needs.{needs}

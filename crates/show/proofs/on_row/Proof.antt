@@ -1,5 +1,6 @@
--- `show::on_row` meets its contract: a walk of its MIR, by hand. The row is a local, lent to `turn` as a slice for a lifetime that the walk makes, and taken back with what `turn` left there. The columns are passed on for good, as `turn` itself passes them on.
--- Assumes nothing.
+-- `show::on_row` meets its contract: a walk of its MIR, by hand. The row is a local, lent to `turn` as a slice for a
+-- lifetime that the walk makes, and taken back with what `turn` left there. The columns are passed on for good, as
+-- `turn` itself passes them on. Assumes nothing.
 use mathlib.Core.Path.{_≡_, refl, sym, subst}
 use Prim.Native.Nat.{ℕ, _<_}
 use mathlib.Core.List.{[], _∷_, List}
@@ -196,7 +197,8 @@ module _ {M : Type 1} (𝓤 : URA M) (H : Heap 𝓤) (A : Atoms 𝓤) (W : Given
   enters =
       qed W (‵ (fsep (flft κ₀ q₀) (fsep (flft κ₁ q₁) (fsep (flft κ₂ q₂) (fsep (flft κ₃ q₃) (fsep (flft κ₄ q₄) (fsep (flft κ₅ q₅) ftrue)))))) ∷ ‵ (owns (RS ∷ MutRef (named 0) κ₀ A-216 ∷ MutRef (named 1) κ₁ A-216 ∷ MutRef (named 2) κ₂ A-216 ∷ MutRef (named 3) κ₃ A-216 ∷ MutRef (named 4) κ₄ A-216 ∷ ShrRef (named 5) κ₅ A-3456 ∷ AF ∷ []) a vals) ∷ []) ∵
       fsplit ! $ move ! (1 ∷ []) $ fsplit ! $ move ! (1 ∷ []) $ fsplit ! $ move ! (1 ∷ []) $ fsplit ! $ move ! (1 ∷ []) $ fsplit ! $ move ! (1 ∷ []) $ fsplit ! $ move ! (7 ∷ []) $ fsplit ! $ move ! (1 ∷ []) $ fsplit ! $ move ! (1 ∷ []) $ fsplit ! $ move ! (1 ∷ []) $ fsplit ! $ move ! (1 ∷ []) $ fsplit ! $ move ! (1 ∷ []) $ fsplit ! $ move ! (1 ∷ []) $ fsplit ! $ move ! (1 ∷ []) $ fsplit ! $
-      -- [array; true′; entries; numbers; owners; sizes; prices; sides; session; token of entries; true; token of numbers; token of owners; token of sizes; token of prices; token of sides]
+      -- [array; true′; entries; numbers; owners; sizes; prices; sides; session; token of entries; true; token of
+      -- numbers; token of owners; token of sizes; token of prices; token of sides]
       keep ! (15 ∷ 14 ∷ 13 ∷ 12 ∷ 11 ∷ 9 ∷ 7 ∷ 6 ∷ 5 ∷ 4 ∷ 3 ∷ 2 ∷ []) $ group ! 12 $ done !
 
   -- the row, lent at l under the name δ
@@ -220,7 +222,8 @@ module _ {M : Type 1} (𝓤 : URA M) (H : Heap 𝓤) (A : Atoms 𝓤) (W : Given
   goes-turn ν l δ =
       qed W (‵ Lent ∷ ‵ (flft (ν ∷ []) fullShare) ∷ ‵ (MutSlice (named 6) (ν ∷ []) RF .own (x l δ) (s l ∷ [])) ∷ []) ∵ says ! ok $
       fsplit ! $ move ! (1 ∷ []) $ fsplit ! $ move ! (1 ∷ []) $ fsplit ! $ move ! (1 ∷ []) $ fsplit ! $ move ! (1 ∷ []) $ fsplit ! $ move ! (1 ∷ []) $ fsplit ! $ move ! (1 ∷ []) $ fsplit ! $ move ! (1 ∷ []) $ fsplit ! $ move ! (1 ∷ []) $ fsplit ! $ move ! (1 ∷ []) $ fsplit ! $ move ! (1 ∷ []) $ fsplit ! $ nothing ! $ nothing ! $ owned ! RS (Is RS) (LL.makes S.the-type S′.the-plain 𝓤 H A) h _ is-h $
-      -- [session; true′; true; numbers; entries; owners; sizes; prices; sides; token of entries; token of numbers; token of owners; token of sizes; token of prices; token of sides; ν's token; row]
+      -- [session; true′; true; numbers; entries; owners; sizes; prices; sides; token of entries; token of numbers;
+      -- token of owners; token of sizes; token of prices; token of sides; ν's token; row]
       move ! (14 ∷ 13 ∷ 12 ∷ 11 ∷ 10 ∷ 9 ∷ 15 ∷ 2 ∷ 0 ∷ 8 ∷ 7 ∷ 6 ∷ 5 ∷ 3 ∷ 4 ∷ 16 ∷ 1 ∷ []) $ group ! 8 $ move ! (1 ∷ 2 ∷ 3 ∷ 4 ∷ 5 ∷ 6 ∷ 7 ∷ 8 ∷ 9 ∷ []) $ group ! 9 $ move ! (1 ∷ 0 ∷ []) $ frame ! $ done !
 
   -- of what `turn` leaves: the columns' part, the token and the last row
@@ -241,7 +244,8 @@ module _ {M : Type 1} (𝓤 : URA M) (H : Heap 𝓤) (A : Atoms 𝓤) (W : Given
   back-turn ν l δ ws =
       qed W (‵ (Tokens (ν ∷ []) fullShare) ∷ ‵ (lasts turn.ended (κ₀, (κ₁, (κ₂, (κ₃, (κ₄, (κ₅, (ν ∷ [], tt))))))) (arg-turn l δ) ws) ∷ []) ∵
       fsplit ! $ move ! (1 ∷ []) $ fsplit ! $ move ! (1 ∷ []) $ fsplit ! $ move ! (1 ∷ []) $ fsplit ! $ move ! (1 ∷ []) $ fsplit ! $ move ! (1 ∷ []) $ fsplit ! $ move ! (1 ∷ []) $ fsplit ! $ move ! (8 ∷ []) $ fsplit ! $ move ! (1 ∷ []) $ fsplit ! $ move ! (1 ∷ []) $ fsplit ! $ move ! (1 ∷ []) $ fsplit ! $ move ! (1 ∷ []) $ fsplit ! $ move ! (1 ∷ []) $ fsplit ! $ move ! (1 ∷ []) $ fsplit ! $ move ! (1 ∷ []) $ fsplit ! $
-      -- [row; true′; entries; numbers; owners; sizes; prices; sides; session; ν's token; true; token of entries; token of numbers; token of owners; token of sizes; token of prices; token of sides]
+      -- [row; true′; entries; numbers; owners; sizes; prices; sides; session; ν's token; true; token of entries; token
+      -- of numbers; token of owners; token of sizes; token of prices; token of sides]
       keep ! (16 ∷ 15 ∷ 14 ∷ 13 ∷ 12 ∷ 11 ∷ 7 ∷ 6 ∷ 5 ∷ 4 ∷ 3 ∷ 9 ∷ 0 ∷ []) $ group ! 11 $ done !
 
   abbrev to-beside : Turned → Val → List Fill → Beside 𝓤 H A at-mem run .Ghost
@@ -256,7 +260,8 @@ module _ {M : Type 1} (𝓤 : URA M) (H : Heap 𝓤) (A : Atoms 𝓤) (W : Given
       qed W (‵ (Left w) ∷ ‵ (RB .own r (v ∷ [])) ∷ []) ∵
       suffices ! _ (ends-at 𝓤 H A this.ended stayed (this.clauses 𝓤 H A at-mem run) W (((κ₀, (κ₁, (κ₂, (κ₃, (κ₄, (κ₅, tt)))))), (q₀, (q₁, (q₂, (q₃, (q₄, (q₅, tt)))))), tt, a, vals), tt) v r (tt, (w .0, (w .1 .0, (w .1 .1 .0, (w .1 .1 .1 .0, (w .1 .1 .1 .1 .0, (tt, (tt, tt)))))))) (tt, (tt, (tt, (tt, (tt, (tt, (tt, (tt, tt))))))))) $ says-two ! e e′ $
       fsplit ! $ move ! (1 ∷ []) $ fsplit ! $ move ! (1 ∷ []) $ fsplit ! $ move ! (1 ∷ []) $ fsplit ! $ move ! (1 ∷ []) $ fsplit ! $ move ! (1 ∷ []) $ fsplit ! $ move ! (1 ∷ []) $ fsplit ! $ move ! (1 ∷ []) $ fsplit ! $ move ! (1 ∷ []) $ fsplit ! $ move ! (1 ∷ []) $ fsplit ! $ nothing ! $ nothing ! $ nothing ! $ nothing ! $ nothing ! $
-      -- [true4; true3; true2; true1; true0; owners; numbers; sizes; prices; sides; token of entries; token of numbers; token of owners; token of sizes; token of prices; token of sides; result]
+      -- [true4; true3; true2; true1; true0; owners; numbers; sizes; prices; sides; token of entries; token of numbers;
+      -- token of owners; token of sizes; token of prices; token of sides; result]
       move ! (15 ∷ 14 ∷ 13 ∷ 12 ∷ 11 ∷ 10 ∷ 4 ∷ 3 ∷ 9 ∷ 8 ∷ 7 ∷ 5 ∷ 6 ∷ 1 ∷ 0 ∷ 2 ∷ 16 ∷ []) $ group ! 7 $ frame ! $ group ! 9 $ done !
 
   module _ (C : Calls 𝓤 H) (Λ : Loops 𝓤 H) (fm : FmC 𝓤 H (W .laws) C) (known-turn : Triple 𝓤 (C #fills·turn) (Turn 𝓤 H A at-mem run)) (known-beside : Triple 𝓤 (C #show·beside) (Beside 𝓤 H A at-mem run)) where

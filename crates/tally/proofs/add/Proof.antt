@@ -1,4 +1,6 @@
--- `tally::add` meets its contract: a walk of its MIR, by hand. The borrow is opened, the record is read and passed to `summed`, of which the proof knows only that it meets its contract, and the borrow is closed at the record that `summed` returns.
+-- `tally::add` meets its contract: a walk of its MIR, by hand. The borrow is opened, the record is read and passed to
+-- `summed`, of which the proof knows only that it meets its contract, and the borrow is closed at the record that
+-- `summed` returns.
 --
 use mathlib.Core.Path.{_≡_, refl}
 use Prim.Native.Nat.{ℕ, _<_, _^_}

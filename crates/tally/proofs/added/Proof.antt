@@ -1,4 +1,5 @@
--- `tally::added` meets its contract: a walk of its MIR, by hand. The local is lent to `add` for a lifetime that the walk makes, and is taken back at the value that `add` leaves there.
+-- `tally::added` meets its contract: a walk of its MIR, by hand. The local is lent to `add` for a lifetime that the
+-- walk makes, and is taken back at the value that `add` leaves there.
 --
 use mathlib.Core.Path.{_≡_, refl, sym, ap, subst}
 use Prim.Native.Nat.{ℕ, _<_, _^_}
@@ -112,7 +113,8 @@ module _ {M : Type 1} (𝓤 : URA M) (H : Heap 𝓤) (A : Atoms 𝓤) (W : Given
         move ! (4 ∷ []) $ use1 W (‵ (partAt R fullShare h l₅ 0)) (laid T.the-type T′.the-laws T′.the-plain 𝓤 H A W h (mach h) l₅ 0 was) $ lft-new ! tt (λ ν. move ! (1 ∷ []) $
         use1 W (later (some (λ (δ : GName). ‵ (MutRef (named 0) (ν ∷ []) R .own (x l₅ δ) (vptr l₅ 0 ∷ [])) ⊛ ‵ (flent (ν ∷ []) (Body (mem R) l₅ 0 δ))))) (lends-ref 𝓤 H A W R (named 0) (ν ∷ []) h l₅ 0) $ await ! tt $ pick ! (λ δ. split ! $
         move ! (2 ∷ 0 ∷ []) $ use2 W (raw (Add 𝓤 H A at-mem run .pre (to-add ν l₅ δ))) (goes-add ν l₅ δ) $
-        -- [the callee's `pre`; the lender's part; _7; …; _6; …; what dies of _5; _4; …; _3; …; _2; …; _1; …; room for _0; …]
+        -- [the callee's `pre`; the lender's part; _7; …; _6; …; what dies of _5; _4; …; _3; …; _2; …; _1; …; room for
+        -- _0; …]
         calls-at ! fm (Add 𝓤 H A at-mem run) known (to-add ν l₅ δ) (and-then ! (load ! (from ! (stop !)) (look ! 2 refl)) (and-then ! (load ! (from ! (stop !)) (look ! 11 refl)) (and-then ! (load ! (from ! (stop !)) (look ! 9 refl)) (and-then ! (load ! (from ! (stop !)) (look ! 7 refl)) (no-more !))))) (λ v.
         use1 W (later (some (λ (r : Unit {0}). ((‵ (flft (ν ∷ []) fullShare) ⊛ ‵ ftrue) ⊛ ‵ (feq (List Val) (v ∷ []) (vunit ∷ []))) ⊛ raw (ensured 𝓤 H A add.ended (add.clauses 𝓤 H A at-mem run) (ν ∷ [], tt) (x l₅ δ, a .1) tt r)))) (id⊢ 𝓤 _) $ await ! tt $ pick ! (λ r.
         -- what `add` ensures, at some last value

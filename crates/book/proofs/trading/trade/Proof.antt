@@ -1,5 +1,5 @@
--- `book::trading::trade` meets its contract: an order with nothing to trade leaves the book and the records as they were; else what each row trades,
--- its record and what is left of it are those of the definitions.
+-- `book::trading::trade` meets its contract: an order with nothing to trade leaves the book and the records as they
+-- were; else what each row trades, its record and what is left of it are those of the definitions.
 use mathlib.Core.Path.{sym, _∙_}
 use borrow.Author.Needs.{needs}
 use Rattle.book.specs.TradingLaws.{took-apart, trade-leaves, trade-counts, trade-writes, trade-shares, trade-fills, trade-answers, nothing-left, nothing-counted, nothing-written, nothing-shared, nothing-filled}

@@ -1,4 +1,5 @@
--- `checks::turn_down::above_percent` meets its contract: the product fits below 200 percent, and from there on the test fails.
+-- `checks::turn_down::above_percent` meets its contract: the product fits below 200 percent, and from there on the test
+-- fails.
 use Prim.Native.Nat.{_+_}
 use native.Mathlib.Omega.{arith}
 use borrow.Author.Needs.{needs}

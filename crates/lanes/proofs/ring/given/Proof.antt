@@ -1,4 +1,5 @@
--- `lanes::ring::given` meets its contract: past the last number every number is 0, and before it each is read at its place.
+-- `lanes::ring::given` meets its contract: past the last number every number is 0, and before it each is read at its
+-- place.
 use mathlib.Core.Path.{_≡_}
 use Prim.Native.Nat.{ℕ, _+_, _*_, _≤_}
 use native.Mathlib.Omega.{arith}

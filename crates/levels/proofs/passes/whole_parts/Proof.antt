@@ -1,4 +1,5 @@
--- `levels::passes::whole_parts` meets its contract: the sum so far is that of the rows passed, and each of them adds at most what 32 bits hold.
+-- `levels::passes::whole_parts` meets its contract: the sum so far is that of the rows passed, and each of them adds at
+-- most what 32 bits hold.
 use mathlib.Core.Path.{_∙_}
 use Prim.Native.Nat.{_*_, _≤_, _-_}
 use native.Mathlib.Omega.{arith}

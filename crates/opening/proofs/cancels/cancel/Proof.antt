@@ -1,4 +1,5 @@
--- `opening::cancels::cancel` meets its contract: the rows passed have what the cancels leave of them, told by what stood at the start.
+-- `opening::cancels::cancel` meets its contract: the rows passed have what the cancels leave of them, told by what
+-- stood at the start.
 use mathlib.Core.Path.{_≡_}
 use Prim.Native.Nat.{_-_}
 use native.Mathlib.Nat.{le-refl}

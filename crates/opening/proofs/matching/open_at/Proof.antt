@@ -1,4 +1,5 @@
--- `opening::matching::open_at` meets its contract: the fills, their records, what they leave, and what the cancels leave of that.
+-- `opening::matching::open_at` meets its contract: the fills, their records, what they leave, and what the cancels
+-- leave of that.
 use borrow.Author.Needs.{needs}
 use Rattle.opening.specs.MatchingLaws.{volume-fits, opening-apart, opening-writes, opening-shares, opening-leaves, opening-answers, table-long}
 use Rattle.opening.proofs.matching.open_at.Statement.{statement}

@@ -1,4 +1,5 @@
--- `rehearse::window::refill` meets its contract: what was not replayed stands at the front, and the read changes what is behind it alone.
+-- `rehearse::window::refill` meets its contract: what was not replayed stands at the front, and the read changes what
+-- is behind it alone.
 use mathlib.Core.Path.{refl}
 use mathlib.Core.List.{List}
 use Prim.Native.Nat.{ℕ, _-_}

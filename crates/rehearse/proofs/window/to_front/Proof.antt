@@ -1,4 +1,5 @@
--- `rehearse::window::to_front` meets its contract: the bytes passed stand at the front, and those behind are as they were.
+-- `rehearse::window::to_front` meets its contract: the bytes passed stand at the front, and those behind are as they
+-- were.
 use Prim.Native.Nat.{_-_}
 use native.Mathlib.Omega.{arith}
 use borrow.Author.Needs.{needs}

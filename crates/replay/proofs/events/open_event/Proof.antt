@@ -1,5 +1,5 @@
--- `replay::events::open_event` meets its contract: what the open makes of the market, its line, its fills, and what is gone between the sizes
--- before and after.
+-- `replay::events::open_event` meets its contract: what the open makes of the market, its line, its fills, and what is
+-- gone between the sizes before and after.
 use mathlib.Core.Path.{refl}
 use Rattle.replay.specs.ReplayLaws.{open-replayed}
 use Rattle.replay.proofs.events.open_event.Statement.{statement}

@@ -1,4 +1,5 @@
--- `session::Session::new` meets its contract: a session started on no terms, and with no accepted settings it is sound beside anything.
+-- `session::Session::new` meets its contract: a session started on no terms, and with no accepted settings it is sound
+-- beside anything.
 use borrow.Author.Needs.{needs}
 use Rattle.session.specs.SettingsSound.{new-kept}
 use Rattle.session.proofs.Session.new.Statement.{statement}

@@ -1,4 +1,5 @@
--- `session::open::match_at` meets its contract: the match leaves and writes what the definitions say, and each row's contracts are credited.
+-- `session::open::match_at` meets its contract: the match leaves and writes what the definitions say, and each row's
+-- contracts are credited.
 use mathlib.Core.Path.{_∙_}
 use borrow.Author.Needs.{needs}
 use Rattle.book.specs.Book.{bookOf}

@@ -1,4 +1,5 @@
--- `session::open::open_core` meets its contract, by which way the open goes; and what the definition makes of a sound market is sound.
+-- `session::open::open_core` meets its contract, by which way the open goes; and what the definition makes of a sound
+-- market is sound.
 use mathlib.Core.Path.{_≡_, sym, _∙_}
 use mathlib.Core.List.{List}
 use Prim.Native.Nat.{ℕ}

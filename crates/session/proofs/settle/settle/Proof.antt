@@ -1,5 +1,5 @@
--- `session::settle::settle` meets its contract: what the trade left and wrote is the definitions', and the tallies are credited with the incoming
--- order and with the rows that traded.
+-- `session::settle::settle` meets its contract: what the trade left and wrote is the definitions', and the tallies are
+-- credited with the incoming order and with the rows that traded.
 use native.Mathlib.Omega.{arith}
 use borrow.Author.Needs.{needs}
 use Rattle.book.specs.Book.{bookOf}

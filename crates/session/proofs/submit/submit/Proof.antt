@@ -1,4 +1,5 @@
--- `session::submit::submit` meets its contract, by whether it is refused; a bulk that is not finds the lane sound and has room in it.
+-- `session::submit::submit` meets its contract, by whether it is refused; a bulk that is not finds the lane sound and
+-- has room in it.
 use mathlib.Core.Path.{sym, _∙_}
 use native.Mathlib.Omega.{arith}
 use borrow.Author.Needs.{needs}

@@ -1,4 +1,5 @@
--- `session::turn::trade_turn` meets its contract: what settling, the disposition and the rest's disposal ensure is the turn's definition.
+-- `session::turn::trade_turn` meets its contract: what settling, the disposition and the rest's disposal ensure is the
+-- turn's definition.
 use mathlib.Core.Path.{refl}
 use native.Mathlib.Omega.{arith}
 use borrow.Author.Needs.{needs}

@@ -1,4 +1,5 @@
--- `session::turn::turn_core` meets its contract: refused, or the entry's turn of the lane served; a sound market has what each part rests on.
+-- `session::turn::turn_core` meets its contract: refused, or the entry's turn of the lane served; a sound market has
+-- what each part rests on.
 use borrow.Author.Needs.{needs}
 use Rattle.book.specs.Book.{bookOf}
 use Rattle.session.specs.Market.{Market, marketOf}

@@ -1,4 +1,5 @@
--- `read_several` meets its contract. The invariant: what is to be found is what i numbers and a reading on at `next` give.
+-- `read_several` meets its contract. The invariant: what is to be found is what i numbers and a reading on at `next`
+-- give.
 use mathlib.Core.Path.{_≡_, refl, sym, _∙_}
 use mathlib.Core.Logic.{⊎-elim}
 use Prim.Native.Nat.{_-_}
