@@ -35,14 +35,14 @@ ghost use mathlib.Core.List.{List};
 ghost use Prim.Native.Nat.{ℕ, _+_, _*_, _<_, _≤_};
 ghost use lib.ListN.{length};
 ghost use Rattle.rows.specs.Rows.{rows};
-ghost use Rattle.book.specs.Book.{bookOf};
+ghost use Rattle.book.specs.Book.{Book, bookOf};
 ghost use Rattle.book.specs.Fit.{Whole};
 ghost use Rattle.lanes.specs.Asked.{CanTake};
 ghost use Rattle.tally.specs.Tallies.{Countable};
 ghost use Rattle.entry.specs.Numbers.{lastNumber};
 ghost use Rattle.session.specs.Market.{marketOf};
 ghost use Rattle.session.specs.Sound.{TurnsHeld, Sound};
-ghost use Rattle.session.specs.Turn.{turnRefusal, afterTaking, turnDone, cancelTurn, restTurn, numbered, tradeTurn, orderTurn, entryTurn, turnOf};
+ghost use Rattle.session.specs.Turn.{turnRefusal, afterTaking, turnDone, turnedDown, cancelTurn, restTurn, numbered, tradeTurn, orderTurn, entryTurn, turnOf};
 ghost use Rattle.session.specs.TradeTurn.{disposed, CanTrade};
 ghost use Rattle.session.specs.OrderTurn.{CanOrder};
 ghost use Rattle.session.specs.EntryTurn.{CanEnter};
@@ -91,6 +91,16 @@ fn after_taking(s: Session, t: usize) -> Session
     after
 }
 
+// An entry turned down: its turn is taken, and nothing else changes.
+fn turned_down(taken: Session, t: usize, code: u32) -> Turned
+    ensures { λ r. ⌜ ((b : Book) (entries was : List ℕ) → turnDone r b entries was ≡ turnedDown (marketOf taken b entries) t was code) ⌝ }
+{
+    Turned {
+        session: taken,
+        answer: TurnAnswer::TurnedDown(t, code),
+    }
+}
+
 // A cancel frees the row of its order, if that order rests and is the tenant's.
 fn cancel_turn(
     s: Session,
@@ -112,10 +122,7 @@ fn cancel_turn(
             answer: TurnAnswer::Cancelled(t, e.number),
         }
     } else {
-        Turned {
-            session: s,
-            answer: TurnAnswer::TurnedDown(t, 18),
-        }
+        turned_down(s, t, 18)
     }
 }
 
@@ -274,10 +281,7 @@ fn order_turn(
     let terms = s.terms;
     let verdict = judge(e, quotes, terms, standing);
     match verdict {
-        Judged::TurnedDown(code) => Turned {
-            session: s,
-            answer: TurnAnswer::TurnedDown(t, code),
-        },
+        Judged::TurnedDown(code) => turned_down(s, t, code),
         Judged::Rests(o) => rest_turn(s, t, o, sides, prices, sizes, owners, numbers),
         Judged::Trades(o, bound) => trade_turn(
             s,

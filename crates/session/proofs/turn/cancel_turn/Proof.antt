@@ -1,4 +1,5 @@
 -- `session::turn::cancel_turn` meets its contract, by whether the tenant's order rests.
+use mathlib.Core.Path.{_∙_}
 use native.Mathlib.Omega.{arith}
 use borrow.Author.Needs.{needs}
 use Rattle.book.specs.Book.{bookOf}
@@ -14,8 +15,9 @@ cancel-turn-spec =
     (λ c. omega arith)
     (λ c κs. search needs)
     (λ c κs. search needs)
+    (λ c κs. search needs)
     (λ c. λ sides prices entries was.
     cancelled (marketOf _ (bookOf sides prices _ _ _) entries) _ was _ _ _ (c .before .before .before .order-row .ensures)
     (c .before .before .if1 .taken) (c .free .ensures sides prices _ _))
-    (λ c. λ sides prices entries was.
-    not-cancelled (marketOf _ (bookOf sides prices _ _ _) entries) _ was _ _ (c .before .order-row .ensures) (c .if1 .left)))
+    (λ c. λ sides prices entries was. c .turned-down .ensures _ entries was ∙
+    not-cancelled (marketOf _ (bookOf sides prices _ _ _) entries) _ was _ _ (c .before .before .order-row .ensures) (c .before .if1 .left)))

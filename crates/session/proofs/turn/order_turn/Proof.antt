@@ -39,8 +39,8 @@ trade-turn-requires c κs =
 
 returns : tie.Need-returns
 returns c =
-    let j = c .before .before .before in
-    λ entries. by-verdict _ _ _ (lent j) _ (j .before .before .before .before .before .before .before .before .before .before .before .before .before .before .before .pre) _ (quoted j) _ (stands j) _ (j .judge .ensures) entries _ (c .before .verdict .given .1)
+    let j = c .before .before .before .before in
+    λ entries. c .turned-down .ensures _ entries _ ∙ by-verdict _ _ _ (lent j) _ (j .before .before .before .before .before .before .before .before .before .before .before .before .before .before .before .pre) _ (quoted j) _ (stands j) _ (j .judge .ensures) entries _ (c .before .before .verdict .given .1)
 
 returns-2 : tie.Need-returns-2
 returns-2 c =
@@ -63,6 +63,7 @@ order-turn-spec =
     (λ c κs. search needs)
     (λ c κs. search needs)
     (λ c. search needs)
+    (λ c κs. search needs)
     (λ c. search needs)
     rest-turn-requires
     (λ c. search needs)
