@@ -31,11 +31,11 @@ worked :
 unfolding numberIn numberAt numbers settings away entries submit formOf event reading eventAt numbersAt entriesOf stored entriesAfter _and_ from1to
 worked = (refl, refl, refl, refl, refl, refl, refl)
 
--- 33 another event number, 6 or 133 (whose first group is 5), and 34 a count of 0 or 21, each as soon as it is read and
--- at its own place; a count of 20 goes on to its entries
+-- 33 another event number, 14 or 133 (whose first group is 5), and 34 a count of 0 or 21, each as soon as it is read
+-- and at its own place; a count of 20 goes on to its entries
 refusals :
     (eventAt (0x80 ∷ 0x00 ∷ []) 0 ≡ Refused 31 0) ×
-    (eventAt (6 ∷ []) 0 ≡ Refused 33 0) × (eventAt (0 ∷ []) 0 ≡ Refused 33 0) × (eventAt (4 ∷ 0x85 ∷ 0x01 ∷ []) 1 ≡ Refused 33 1) ×
+    (eventAt (14 ∷ []) 0 ≡ Refused 33 0) × (eventAt (0 ∷ []) 0 ≡ Refused 33 0) × (eventAt (4 ∷ 0x85 ∷ 0x01 ∷ []) 1 ≡ Refused 33 1) ×
     (eventAt (3 ∷ 2 ∷ 0 ∷ []) 0 ≡ Refused 34 2) × (eventAt (3 ∷ 2 ∷ 21 ∷ []) 0 ≡ Refused 34 2) ×
     (eventAt (3 ∷ 2 ∷ 20 ∷ []) 0 ≡ Refused 30 3) ×
     (eventAt (2 ∷ 100 ∷ 0x80 ∷ 0x00 ∷ []) 0 ≡ Refused 31 2) ×
