@@ -6,7 +6,7 @@ use lib.Dec.{leb}
 use lib.ListN.{set, replicate}
 use Rattle.units.specs.Places.{at}
 use Rattle.rows.specs.Rows.{rows, highest}
-use Rattle.rows.specs.Passes.{highestBuy, lowestSell, standing, restingRows, orderRow, freeRow}
+use Rattle.rows.specs.Passes.{highestBuy, lowestSell, restingWithin, restingRows, orderRow, freeRow}
 
 -- row i is what stands at place i of each column; a row of size 0 is free
 pub record Book : Type 0 where
@@ -76,22 +76,26 @@ module _ (b : Book) where
 
   -- contracts that may be traded on a side within a bound
   abbrev pub withinBound : ℕ → ℕ → ℕ
-  withinBound = standing (b .places) sideAt priceAt sizeAt
+  withinBound = restingWithin (b .places) sideAt priceAt sizeAt
 
   -- the first free row
   abbrev pub firstFree : ℕ
   firstFree = freeRow (b .places) sizeAt
 
+  -- an order in a row
+  abbrev pub restedAt : ℕ → ℕ → ℕ → ℕ → ℕ → ℕ → Book
+  restedAt row side price size owner number = record {
+    places = b .places;
+    sides = set (b .sides) row side;
+    prices = set (b .prices) row price;
+    sizes = set (b .sizes) row size;
+    owners = set (b .owners) row owner;
+    numbers = set (b .numbers) row number;
+  }
+
   -- an order rests in the first free row
   unfoldable pub rested : ℕ → ℕ → ℕ → ℕ → ℕ → Book
-  rested side price size owner number = record {
-    places = b .places;
-    sides = set (b .sides) firstFree side;
-    prices = set (b .prices) firstFree price;
-    sizes = set (b .sizes) firstFree size;
-    owners = set (b .owners) firstFree owner;
-    numbers = set (b .numbers) firstFree number;
-  }
+  rested = restedAt firstFree
 
   -- the rows with other sizes
   abbrev pub withSizes : List ℕ → Book

@@ -1,4 +1,4 @@
--- What a row trades, told by the margin: all of it at a better price, nothing at a worse one, and at the margin by the
+-- What a row trades, told by the edge: all of it at a better price, nothing at a worse one, and at the edge by the
 -- class.
 use mathlib.Core.Path.{_≡_, refl}
 use Prim.Native.Nat.{ℕ, suc, _+_, _-_, _≤_, _<_, min}
@@ -8,7 +8,7 @@ use borrow.Author.Tests.{lt-ltb, lt-leb}
 use Rattle.units.specs.Sums.{sumTo, sum-same, sum-most, sum-has, sum-tight}
 use Rattle.units.specs.Picked.{keep, same, lower, same-in, same-both, sum-lower-next, lower-grows}
 use Rattle.levels.specs.Levels.{wholeOf, wholes, larger}
-use Rattle.margin.specs.Margin.{AtMargin}
+use Rattle.allocation.specs.Edge.{AtEdge}
 use Rattle.book.specs.Allocation.{Resting, Class, time, proportion, before, level, earlier, ahead, rank, left, whole, leftover, extra, fill}
 use Rattle.book.specs.AllocationLaws.{Distinct, fill-most, level-filled}
 
@@ -20,7 +20,7 @@ pub rank-is : (r : Resting) (i : ℕ) → rank r i ≡ sumTo (larger (r .key) (r
 unfolding rank ahead larger
 rank-is r i = refl
 
-module _ (r : Resting) (q m rest : ℕ) (margin : AtMargin (r .places) (r .key) (r .size) q m rest) where
+module _ (r : Resting) (q m rest : ℕ) (edge : AtEdge (r .places) (r .key) (r .size) q m rest) where
   open Resting r using (places, size, key, number)
 
   -- a better price is filled whole
@@ -32,7 +32,7 @@ module _ (r : Resting) (q m rest : ℕ) (margin : AtMargin (r .places) (r .key) 
       let upto = sum-lower-next key (key i) size places in
       let grows = sum-most places (λ l _. lower-grows key (suc (key i)) m size l h) in
       let tight = sum-tight places (λ l _. same-both _≤_ key (key i) f size l (omega arith) (λ _. fill-most r q k l))
-      (omega (arith, margin .reaches)) i p in
+      (omega (arith, edge .reaches)) i p in
       omega (arith, same-in key (key i) f i refl, same-in key (key i) size i refl)
 
   -- nothing reaches a worse one
@@ -43,14 +43,14 @@ module _ (r : Resting) (q m rest : ℕ) (margin : AtMargin (r .places) (r .key) 
       let there = level-filled r q d k (key i) in
       let mine = sum-has (same key (key i) f) places i p in
       let grows = sum-most places (λ l _. lower-grows key (suc m) (key i) size l h) in
-      omega (arith, margin .short i p x (omega arith), same-in key (key i) f i refl)
+      omega (arith, edge .short i p x (omega arith), same-in key (key i) f i refl)
 
   reach-is : left r q m ≡ rest
   unfolding left before
-  reach-is = omega (arith, margin .reaches)
+  reach-is = omega (arith, edge .reaches)
 
-  -- at the margin by time: again a margin, that of the numbers, in what the rows of this price hold
-  module _ (n last : ℕ) (line : AtMargin places number (same key m size) rest n last) (i : ℕ) (p : i < places) (e : key i ≡ m) where
+  -- at the edge by time: again an edge, that of the numbers, in what the rows of this price hold
+  module _ (n last : ℕ) (line : AtEdge places number (same key m size) rest n last) (i : ℕ) (p : i < places) (e : key i ≡ m) where
     by-time : fill r q time i ≡ min (size i) (rest - sumTo (lower number (number i) (same key m size)) places)
     unfolding fill earlier
     by-time = simp (e, reach-is)
@@ -81,10 +81,10 @@ module _ (r : Resting) (q m rest : ℕ) (margin : AtMargin (r .places) (r .key) 
     pub fill-last : number i ≡ n → fill r q time i ≡ min (size i) last
     fill-last h = omega (arith, rw h at by-time, line .reaches)
 
-  -- at the margin in proportion: the whole part of the share, and one more for the first by rank
+  -- at the edge in proportion: the whole part of the share, and one more for the first by rank
   module _ (i : ℕ) (p : i < places) (x : 0 < size i) (e : key i ≡ m) where
     short-here : rest < sumTo (same key m size) places
-    short-here = omega (arith, margin .reaches, margin .short i p x (omega arith), sum-lower-next key m size places)
+    short-here = omega (arith, edge .reaches, edge .short i p x (omega arith), sum-lower-next key m size places)
 
     wholes-are : sumTo (same key m (whole r q)) places ≡ sumTo (same key m (wholes rest (sumTo (same key m size) places) size)) places
     unfolding whole wholeOf level

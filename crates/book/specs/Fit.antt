@@ -5,15 +5,16 @@ use Prim.Native.Nat.{ℕ, _<_}
 use lib.ListN.{length}
 use Rattle.units.specs.Places.{at}
 use Rattle.rows.specs.Rows.{rows}
-use Rattle.margin.specs.Ranges.{Small, Priced, Numbered}
+use Rattle.allocation.specs.Ranges.{Small, Priced, Numbered}
+use Rattle.book.specs.Book.{Book}
 
--- the columns have all their rows
-pub record Whole (sides prices sizes owners numbers : List ℕ) : Type 0 where
-  pub sides-long : length sides ≡ rows
-  pub prices-long : length prices ≡ rows
-  pub sizes-long : length sizes ≡ rows
-  pub owners-long : length owners ≡ rows
-  pub numbers-long : length numbers ≡ rows
+-- the columns of a book have all their rows
+pub record Whole (b : Book) : Type 0 where
+  pub sides-long : length (b .sides) ≡ rows
+  pub prices-long : length (b .prices) ≡ rows
+  pub sizes-long : length (b .sizes) ≡ rows
+  pub owners-long : length (b .owners) ≡ rows
+  pub numbers-long : length (b .numbers) ≡ rows
 
 -- no two resting rows have one number
 abbrev pub Apart : List ℕ → List ℕ → Type 0

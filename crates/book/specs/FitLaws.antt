@@ -3,7 +3,7 @@ use mathlib.Core.List.{List, []}
 use Prim.Native.Nat.{ℕ}
 use native.Mathlib.Omega.{arith}
 use Rattle.units.specs.Places.{at}
-use Rattle.margin.specs.RangeLaws.{open-most}
+use Rattle.allocation.specs.RangeLaws.{open-most}
 use Rattle.book.specs.Book.{bookOf}
 use Rattle.book.specs.AllocationLaws.{Distinct}
 use Rattle.book.specs.Trading.{reach}

@@ -1,11 +1,11 @@
 -- What the matching crate promises: the rules of document 01 about the book, as definitions, and their laws.
 pub mod Book
+pub mod Lent
 pub mod Allocation
 pub mod AllocationLaws
 pub mod Records
 pub mod RecordLaws
 pub mod Trading
-pub mod Opening
 pub mod Sound
 pub mod Fit
 pub mod BookLaws
@@ -17,10 +17,8 @@ pub mod RecordingLaws
 pub mod SameRecords
 pub mod TradingLaws
 pub mod Answers
-pub mod OpeningLaws
 pub mod SweptLaws
 pub mod SoundLaws
 pub mod RestLaws
 pub mod RecordSums
-pub mod SideLaws
-pub mod OpeningSums
+pub mod RestingLaws

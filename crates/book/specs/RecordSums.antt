@@ -14,31 +14,31 @@ use Rattle.units.specs.Places.{at, table-at}
 use Rattle.book.specs.Book.{Book, priceAt, ownerAt}
 use Rattle.book.specs.Allocation.{Resting}
 use Rattle.book.specs.AllocationLaws.{Distinct}
-use Rattle.book.specs.Records.{records, recorded, fieldOf, written}
+use Rattle.book.specs.Records.{records, recorded, fieldOf, written, fields}
 use Rattle.book.specs.RecordLaws.{traded-in, traded-out, pos-onto, records-most, recorded-at, sum-recorded}
 use Rattle.book.specs.Trading.{ofTenant, traded, tradedRows, tradeRecords, tradeWritten}
 
 -- field f of place p, in numbers four to a record
-field-place : (p f : ℕ) → f < 4 → ((4 * p + f) / 4 ≡ p) × ((4 * p + f) % 4 ≡ f)
+field-place : (p f : ℕ) → f < fields → ((fields * p + f) / fields ≡ p) × ((fields * p + f) % fields ≡ f)
 field-place p f h =
-    (mul-add-div (omega arith) p f ∙ (ap (λ z. p + z) (div-eq-of-lt h) ∙ add-zero p), mul-add-mod-self-left 4 p f ∙ mod-eq-of-lt h)
+    (mul-add-div (omega arith) p f ∙ (ap (λ z. p + z) (div-eq-of-lt h) ∙ add-zero p), mul-add-mod-self-left fields p f ∙ mod-eq-of-lt h)
 
 -- whose the record at p is, and its quantity, in the lent numbers
 abbrev pub tenantIn : List ℕ → ℕ → ℕ
-tenantIn l p = at l (4 * p + 1)
+tenantIn l p = at l (fields * p + 1)
 
 abbrev pub quantityIn : List ℕ → ℕ → ℕ
-quantityIn l p = at l (4 * p + 2)
+quantityIn l p = at l (fields * p + 2)
 
 module _ (r : Resting) (owner price : ℕ → ℕ) (was : List ℕ) where
   open Resting r using (places, size)
 
   -- a record's numbers stand where they are looked for
-  pub written-at : (p f : ℕ) → p < records r → f < 4 → at (written r owner price was) (4 * p + f) ≡ recorded r (fieldOf r owner price f) p
+  pub written-at : (p f : ℕ) → p < records r → f < fields → at (written r owner price was) (fields * p + f) ≡ recorded r (fieldOf r owner price f) p
   unfolding written
   written-at p f h k =
       let (e, e′) = field-place p f k in
-      let here = table-at (λ j. cond (ltb (j / 4) (records r)) (recorded r (fieldOf r owner price (j % 4)) (j / 4)) (at was j)) (4 * places) (4 * p + f)
+      let here = table-at (λ j. cond (ltb (j / fields) (records r)) (recorded r (fieldOf r owner price (j % fields)) (j / fields)) (at was j)) (fields * places) (fields * p + f)
       (omega (arith, records-most r)) in
       here ∙ rw (e, e′, lt-ltb p (records r) h) refl
 

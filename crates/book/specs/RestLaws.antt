@@ -15,10 +15,11 @@ use Rattle.units.specs.Sums.{sumTo, sum-same, sum-only, sum-swap, sum-changed, 
 use Rattle.units.specs.Picked.{keep, keep-most}
 use Rattle.units.specs.Firsts.{first-holds, first-before}
 use Rattle.units.specs.Places.{at}
-use Rattle.rows.specs.Rows.{rows, rowsATenant, highest, restsFor}
+use Rattle.units.specs.Units.{tenants}
+use Rattle.rows.specs.Rows.{rows, rowsATenant, highest, restsFor, largest}
 use Rattle.rows.specs.Passes.{restingRows, freeRow}
 use Rattle.book.specs.Book.{Book, sideAt, priceAt, sizeAt, ownerAt, numberAt, restingOf, firstFree, rested}
-use Rattle.book.specs.Sound.{SoundRow, SoundBook, Uncrossed}
+use Rattle.book.specs.Sound.{SoundRow, SoundBook, Below, Uncrossed}
 use Rattle.book.specs.SoundLaws.{rests-one, rests-free, rests-other}
 
 -- the first free row is free
@@ -33,8 +34,8 @@ pub record SoundOrder (side price size owner number : ℕ) : Type 0 where
   pub price-least : 1 ≤ price
   pub price-most : price ≤ highest
   pub size-least : 1 ≤ size
-  pub size-most : size ≤ 999999
-  pub owner-most : owner < 9
+  pub size-most : size ≤ largest
+  pub owner-most : owner < tenants
   pub number-least : 1 ≤ number
 
 module _ {b : Book} {next : ℕ} (s : SoundBook b next) (free : firstFree b < rows) (side price size owner number : ℕ) where
@@ -136,15 +137,15 @@ module _ {b : Book} {next : ℕ} (s : SoundBook b next) (free : firstFree b < ro
       ];
     }
 
-  -- an order that reaches no row of the other side leaves an uncrossed book uncrossed
-  pub rest-uncrossed : Uncrossed b
-      → ((i : ℕ) → i < rows → 0 < sizeAt b i → side ≡ 1 → sideAt b i ≡ 2 → price < priceAt b i)
-      → ((i : ℕ) → i < rows → 0 < sizeAt b i → side ≡ 2 → sideAt b i ≡ 1 → priceAt b i < price)
-      → Uncrossed after
+  -- an order that reaches no row of the other side leaves one side below the other
+  pub rest-below : {buys sells : ℕ} → buys ≢ sells → Below buys sells b
+      → ((i : ℕ) → i < rows → 0 < sizeAt b i → side ≡ buys → sideAt b i ≡ sells → price < priceAt b i)
+      → ((i : ℕ) → i < rows → 0 < sizeAt b i → side ≡ sells → sideAt b i ≡ buys → priceAt b i < price)
+      → Below buys sells after
   unfolding rested
-  rest-uncrossed u below above i j p p′ x y e e′ = elim (ℕ-discrete i row) [
+  rest-below two u below above i j p p′ x y e e′ = elim (ℕ-discrete i row) [
     | yes f ↦ elim (ℕ-discrete j row) [
-      | yes g ↦ absurd (omega (arith, rw f at e, rw g at e′))
+      | yes g ↦ absurd (two (omega (arith, rw f at e, rw g at e′)))
       | no g ↦ rw f (omega (
         arith,
         put-here (b .prices) price (s .prices-long),
@@ -170,24 +171,31 @@ module _ {b : Book} {next : ℕ} (s : SoundBook b next) (free : firstFree b < ro
     ]
   ]
 
+  -- so an uncrossed book stays uncrossed
+  pub rest-uncrossed : Uncrossed b
+      → ((i : ℕ) → i < rows → 0 < sizeAt b i → side ≡ 1 → sideAt b i ≡ 2 → price < priceAt b i)
+      → ((i : ℕ) → i < rows → 0 < sizeAt b i → side ≡ 2 → sideAt b i ≡ 1 → priceAt b i < price)
+      → Uncrossed after
+  rest-uncrossed = rest-below (λ e. omega arith)
+
 -- ---- a free row
 
 module _ {b : Book} {next : ℕ} (s : SoundBook b next) (full : (i : ℕ) → i < rows → 0 < sizeAt b i) where
   -- each row of a full book counts for one tenant
-  counted-once : (i : ℕ) → i < rows → sumTo (λ u. keep (restsFor u (ownerAt b i) (sizeAt b i)) 1) 9 ≡ 1
+  counted-once : (i : ℕ) → i < rows → sumTo (λ u. keep (restsFor u (ownerAt b i) (sizeAt b i)) 1) tenants ≡ 1
   counted-once i p =
       let x = full i p in
-      sum-only (λ u. keep (restsFor u (ownerAt b i) (sizeAt b i)) 1) 9 (ownerAt b i) (s .row i p x .owner)
+      sum-only (λ u. keep (restsFor u (ownerAt b i) (sizeAt b i)) 1) tenants (ownerAt b i) (s .row i p x .owner)
       (λ u _ n. rests-other u (ownerAt b i) (sizeAt b i) (λ e. n (sym e)))
       ∙ rests-one (ownerAt b i) (ownerAt b i) (sizeAt b i) x refl
 
-  full-counts : sumTo (restingOf b) 9 ≡ rows
+  full-counts : sumTo (restingOf b) tenants ≡ rows
   unfolding restingRows
-  full-counts = sum-swap (λ u i. keep (restsFor u (ownerAt b i) (sizeAt b i)) 1) 9 (b .places)
+  full-counts = sum-swap (λ u i. keep (restsFor u (ownerAt b i) (sizeAt b i)) 1) tenants (b .places)
       ∙ rw (s .places) (sum-same rows (λ i p. counted-once i p) ∙ sum-ones rows)
 
 -- Nine times 24 rows are all there are: while a tenant has fewer than 24 resting, some row is free.
-pub room-found : {b : Book} {next : ℕ} → SoundBook b next → (t : ℕ) → t < 9 → restingOf b t < rowsATenant → firstFree b < rows
+pub room-found : {b : Book} {next : ℕ} → SoundBook b next → (t : ℕ) → t < tenants → restingOf b t < rowsATenant → firstFree b < rows
 room-found {b} s t h room = elim (order (firstFree b) rows) [
   | less p ↦ p
   | equal p ↦ absurd (none (omega arith))
@@ -205,6 +213,6 @@ room-found {b} s t h room = elim (order (firstFree b) rows) [
     none g = omega (
       arith,
       full-counts s (full g),
-      sum-less {f = restingOf b} {g = λ _. rowsATenant} 9 t (λ u p. s .room u p) h room,
-      sum-le (λ _. rowsATenant) rowsATenant 9 (λ _ _. omega arith),
+      sum-less {f = restingOf b} {g = λ _. rowsATenant} tenants t (λ u p. s .room u p) h room,
+      sum-le (λ _. rowsATenant) rowsATenant tenants (λ _ _. omega arith),
     )

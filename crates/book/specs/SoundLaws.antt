@@ -1,5 +1,5 @@
--- What keeps a book sound: an empty one is, trading, cancelling and opening take from rows, resting fills a free one;
--- and a sound book is fit for a match.
+-- What keeps a book sound: an empty one is, trading and cancelling take from rows, resting fills a free one; and a
+-- sound book is fit for a match.
 use mathlib.Core.Path.{_≡_, sym, _∙_}
 use mathlib.Core.Bool.{false}
 use mathlib.Core.List.{List}
@@ -14,21 +14,19 @@ use Rattle.units.specs.Tests.{order, less, equal, more}
 use Rattle.units.specs.Sums.{sum-most, sum-none}
 use Rattle.units.specs.Picked.{keep}
 use Rattle.units.specs.Places.{at, table, table-at, table-length}
-use Rattle.rows.specs.Rows.{rows, restsFor}
+use Rattle.rows.specs.Rows.{rows, restsFor, noNumber}
 use Rattle.rows.specs.Passes.{restingRows}
-use Rattle.levels.specs.Levels.{noNumber}
-use Rattle.book.specs.Book.{Book, emptyBook, sizeAt, ownerAt, bestBid, bestSell, crosses, restingOf, withSizes, freed}
+use Rattle.book.specs.Book.{Book, emptyBook, sizeAt, ownerAt, numberAt, bestBid, bestSell, crosses, restingOf, withSizes, freed}
+use Rattle.book.specs.BookLaws.{buy-most, sell-least}
 use Rattle.book.specs.AllocationLaws.{Distinct}
 use Rattle.book.specs.Trading.{reach, afterTrade, traded}
 use Rattle.book.specs.TradingLaws.{reach-apart}
-use Rattle.book.specs.Opening.{afterOpening}
-use Rattle.book.specs.OpeningLaws.{buy-most, sell-least, opening-most, never-locked-or-crossed}
-use Rattle.book.specs.Sound.{SoundBook, Uncrossed}
+use Rattle.book.specs.Sound.{SoundRow, SoundBook, Below, Uncrossed}
 use Rattle.book.specs.Fit.{Whole, Fit}
 
 -- ---- fit for a match
 
-pub sound-whole : {b : Book} {next : ℕ} → SoundBook b next → Whole (b .sides) (b .prices) (b .sizes) (b .owners) (b .numbers)
+pub sound-whole : {b : Book} {next : ℕ} → SoundBook b next → Whole b
 sound-whole s = record {
   sides-long = s .sides-long;
   prices-long = s .prices-long;
@@ -138,8 +136,9 @@ module _ {b : Book} {next : ℕ} (s : SoundBook b next) (l : List ℕ) (long : l
     room = λ t h. omega (arith, resting-shrinks b l (λ i p. less-each i (rw (s .places) at p)) t, s .room t h);
   }
 
-  pub shrunk-uncrossed : Uncrossed b → Uncrossed (withSizes b l)
-  shrunk-uncrossed u i j p p′ x y = u i j p p′ (held i p x) (held j p′ y)
+  -- and what was below stays below
+  pub shrunk-below : {buys sells : ℕ} → Below buys sells b → Below buys sells (withSizes b l)
+  shrunk-below u i j p p′ x y = u i j p p′ (held i p x) (held j p′ y)
 
 module _ {b : Book} {next : ℕ} (s : SoundBook b next) where
   within-places : {i : ℕ} → i < rows → i < b .places
@@ -152,14 +151,14 @@ module _ {b : Book} {next : ℕ} (s : SoundBook b next) where
     trade-less : (i : ℕ) → i < rows → at after-trade i ≤ sizeAt b i
     trade-less i p = omega (arith, table-at (λ j. sizeAt b j - traded b side bound q allocation j) (b .places) i (within-places p))
 
-    -- a trade keeps the book sound, and uncrossed
+    -- a trade keeps the book sound, and what was below stays below
     pub trade-sound : SoundBook (afterTrade b side bound q allocation) next
     unfolding afterTrade
     trade-sound = shrunk-sound s after-trade (table-length _ (b .places) ∙ s .places) trade-less
 
-    pub trade-uncrossed : Uncrossed b → Uncrossed (afterTrade b side bound q allocation)
+    pub trade-uncrossed : {buys sells : ℕ} → Below buys sells b → Below buys sells (afterTrade b side bound q allocation)
     unfolding afterTrade
-    trade-uncrossed = shrunk-uncrossed s after-trade (table-length _ (b .places) ∙ s .places) trade-less
+    trade-uncrossed = shrunk-below s after-trade (table-length _ (b .places) ∙ s .places) trade-less
 
     pub trade-resting : (t : ℕ) → restingOf (afterTrade b side bound q allocation) t ≤ restingOf b t
     unfolding afterTrade
@@ -177,25 +176,15 @@ module _ {b : Book} {next : ℕ} (s : SoundBook b next) where
     unfolding freed
     free-sound = shrunk-sound s (set (b .sizes) row 0) (length-set (b .sizes) row 0 ∙ s .sizes-long) free-less
 
-    pub free-uncrossed : Uncrossed b → Uncrossed (freed b row)
+    pub free-uncrossed : {buys sells : ℕ} → Below buys sells b → Below buys sells (freed b row)
     unfolding freed
-    free-uncrossed = shrunk-uncrossed s (set (b .sizes) row 0) (length-set (b .sizes) row 0 ∙ s .sizes-long) free-less
+    free-uncrossed = shrunk-below s (set (b .sizes) row 0) (length-set (b .sizes) row 0 ∙ s .sizes-long) free-less
 
   -- where no resting buy is at or above a resting sell, the book is uncrossed
   pub quiet-uncrossed : crosses b ≡ false → Uncrossed b
   unfolding crosses
   quiet-uncrossed h i j p p′ x y e e′ =
       omega (arith, leb-false (bestSell b) (bestBid b) h, buy-most b i (within-places p) x e, sell-least b j (within-places p′) y e′)
-
-  module _ (p : ℕ) where
-    -- so does an opening, after which the book is never locked or crossed, whatever the price
-    pub opening-sound : SoundBook (afterOpening b p) next
-    unfolding afterOpening
-    opening-sound = shrunk-sound s (afterOpening b p .sizes) (table-length _ (b .places) ∙ s .places) (λ i h. opening-most b p i (within-places h))
-
-    pub opening-uncrossed : Uncrossed (afterOpening b p)
-    unfolding afterOpening
-    opening-uncrossed i j h h′ = never-locked-or-crossed b p i j (within-places h) (within-places h′)
 
   -- soundness is kept as numbers are given
   pub later-sound : (later : ℕ) → next ≤ later → SoundBook b later
@@ -219,3 +208,13 @@ module _ {b : Book} {next : ℕ} (s : SoundBook b next) where
     apart = s .apart;
     room = s .room;
   }
+
+-- the rows of a sound book, counted by the book's own number of places
+module _ {b : Book} {next : ℕ} (sound : SoundBook b next) where
+  -- each that rests is sound,
+  pub row-of : (i : ℕ) → i < b .places → 0 < sizeAt b i → SoundRow b next i
+  row-of i h = sound .row i (rw (sound .places) at h)
+
+  -- and live numbers are distinct
+  pub live-apart : (i j : ℕ) → i < b .places → j < b .places → 0 < sizeAt b i → 0 < sizeAt b j → numberAt b i ≡ numberAt b j → i ≡ j
+  live-apart = rw (sound .places) (sound .apart)

@@ -1,28 +1,28 @@
 -- Laws of trading: what a row gives, what all together give, and how the columns that the program works out are those
 -- of the definitions.
 use mathlib.Core.Path.{_≡_, refl, sym, ap, _∙_}
+use mathlib.Core.Bool.{true}
 use mathlib.Core.List.{List, []}
 use Prim.Native.Nat.{ℕ, _*_, _-_, _/_, _≤_, _<_, min}
 use native.Mathlib.Decide.{ℕ-discrete}
 use native.Mathlib.Omega.{arith}
 use lib.ListN.{length, replicate, length-replicate, getD-replicate}
-use borrow.Author.Tests.{le-ltb, ne-eqb}
+use borrow.Author.Tests.{le-ltb, eq-eqb, ne-eqb}
 use Rattle.units.specs.Sums.{sumTo, sum-none, sum-has}
 use Rattle.units.specs.Picked.{precedes}
 use Rattle.units.specs.Units.{contracts}
 use Rattle.units.specs.Places.{at, table, table-at, table-is, table-same}
-use Rattle.rows.specs.Rows.{rows, keyOf, openSize}
-use Rattle.rows.specs.Passes.{standing}
+use Rattle.rows.specs.Rows.{rows, keyOf, within, openSize}
+use Rattle.rows.specs.Passes.{restingWithin}
 use Rattle.levels.specs.Levels.{keysOn}
-use Rattle.margin.specs.RangeLaws.{open-most}
+use Rattle.allocation.specs.RangeLaws.{open-most}
 use Rattle.book.specs.Book.{Book, bookOf, sideAt, priceAt, sizeAt, numberAt, withinBound}
 use Rattle.book.specs.Allocation.{fill, classOf}
 use Rattle.book.specs.AllocationLaws.{Distinct, fill-most, all-filled}
-use Rattle.book.specs.Records.{records, written}
+use Rattle.book.specs.Records.{sortKey, records, written, fields}
 use Rattle.book.specs.RecordLaws.{traded-out}
 use Rattle.book.specs.Trading.{reach, filled, traded, afterTrade, tradedRows, tradeRecords, tradeWritten}
 use Rattle.book.specs.Answers.{tradedOf}
-use Rattle.book.specs.Opening.{sortKey}
 use Rattle.book.specs.Recording.{sortKeys, took}
 use Rattle.book.specs.SameRecords.{sort-order, records-same, written-same}
 use Rattle.book.specs.Fit.{Fit}
@@ -35,6 +35,11 @@ open-side s bound side price size x = elim (ℕ-discrete side s) [
   | yes e ↦ e
   | no e ↦ absurd (omega (arith, simp (ne-eqb side s e) at x))
 ]
+
+-- and all of a row on side s and within the bound may be
+pub open-all : (s bound side price size : ℕ) → side ≡ s → within s price bound ≡ true → openSize s bound side price size ≡ size
+unfolding openSize
+open-all s bound side price size e h = simp (eq-eqb side s e, h)
 
 module _ (b : Book) (side bound : ℕ) where
   -- live numbers are distinct, so those that may be traded are
@@ -61,11 +66,11 @@ module _ (b : Book) (side bound : ℕ) where
 
     -- all together trade what is filled
     pub all-traded : Distinct (reach b side bound) → sumTo (traded b side bound q allocation) (b .places) ≡ filled b side bound q
-    unfolding traded filled standing
+    unfolding traded filled restingWithin
     all-traded d = all-filled (reach b side bound) q d (classOf allocation)
 
     pub nothing-traded : withinBound b side bound ≡ 0 → (i : ℕ) → i < b .places → traded b side bound q allocation i ≡ 0
-    unfolding standing
+    unfolding restingWithin
     nothing-traded z i p = omega (arith, traded-open i, sum-has (reach b side bound .size) (b .places) i p)
 
 -- the columns that the program works out
@@ -136,10 +141,10 @@ module _ (sides prices sizes owners numbers : List ℕ) (fit : Fit prices sizes 
     unfolding tradeRecords
     nothing-counted = sym none-counted
 
-    pub nothing-written : (was : List ℕ) → length was ≡ 4 * rows → was ≡ tradeWritten b side bound q allocation was
+    pub nothing-written : (was : List ℕ) → length was ≡ fields * rows → was ≡ tradeWritten b side bound q allocation was
     unfolding tradeWritten written
-    nothing-written was h = table-is _ was (4 * rows) h λ j p.
-        rw (none-counted, le-ltb (j / 4) 0 (omega arith)) refl
+    nothing-written was h = table-is _ was (fields * rows) h λ j p.
+        rw (none-counted, le-ltb (j / fields) 0 (omega arith)) refl
 
     pub nothing-filled : 0 ≡ filled b side bound q
     unfolding filled

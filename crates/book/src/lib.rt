@@ -1,5 +1,5 @@
 // The matching crate: what an incoming order trades with the resting rows, what rests and what is cancelled, and the
-// opening's match.
+// fill records.
 pub mod quotes;
 pub mod records;
 pub mod resting;

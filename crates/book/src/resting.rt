@@ -5,11 +5,10 @@ use rows::passes::free_row;
 use units::Cents;
 use units::Contracts;
 ghost use mathlib.Core.Path.{_≡_};
-ghost use mathlib.Core.List.{List};
-ghost use Prim.Native.Nat.{ℕ};
 ghost use lib.ListN.{length};
 ghost use Rattle.rows.specs.Rows.{rows};
-ghost use Rattle.book.specs.Book.{bookOf, rested, freed};
+ghost use Rattle.book.specs.Book.{rested, freed};
+ghost use Rattle.book.specs.Lent.{given, before, after, sizing};
 ghost use Rattle.book.specs.Fit.{Whole};
 
 // An order rests in the first free row; a full book stays as it is.
@@ -25,8 +24,8 @@ pub fn rest(
     owners: &mut Column,
     numbers: &mut Column,
 )
-    requires { ⌜ Whole (now sides) (now prices) (now sizes) (now owners) (now numbers) ⌝ }
-    ensures { λ _. ⌜ bookOf (now (sides .exit)) (now (prices .exit)) (now (sizes .exit)) (now (owners .exit)) (now (numbers .exit)) ≡ rested (bookOf (now (sides .entry)) (now (prices .entry)) (now (sizes .entry)) (now (owners .entry)) (now (numbers .entry))) side (price .0) (size .0) owner number ⌝ }
+    requires { ⌜ Whole (given sides prices sizes owners numbers) ⌝ }
+    ensures { λ _. ⌜ after sides prices sizes owners numbers ≡ rested (before sides prices sizes owners numbers) side (price .0) (size .0) owner number ⌝ }
 {
     let row = free_row(sizes);
     if row < ROWS {
@@ -41,7 +40,7 @@ pub fn rest(
 // A cancel frees the row; past the last there is none.
 pub fn free(row: usize, sizes: &mut Column)
     requires { ⌜ length (now sizes) ≡ rows ⌝ }
-    ensures { λ _. ⌜ ((sides prices owners numbers : List ℕ) → bookOf sides prices (now (sizes .exit)) owners numbers ≡ freed (bookOf sides prices (now (sizes .entry)) owners numbers) row) ⌝ }
+    ensures { λ _. ⌜ sizing sizes (λ b c. c ≡ freed b row) ⌝ }
 {
     if row < ROWS {
         sizes[row] = 0;

@@ -1,16 +1,15 @@
 // What each row trades with an order.
-use margin::reach::in_line;
-use margin::reach::margin_of;
-use margin::shares::by_time;
-use margin::shares::in_proportion;
-use margin::shares::sharing;
+use allocation::reach::edge_of;
+use allocation::reach::in_line;
+use allocation::shares::by_time;
+use allocation::shares::in_proportion;
+use allocation::shares::sharing;
 use rows::Column;
 ghost use mathlib.Core.Path.{_≡_};
-ghost use mathlib.Core.List.{[]};
 ghost use Rattle.units.specs.Places.{at, table};
 ghost use Rattle.rows.specs.Rows.{rows};
-ghost use Rattle.rows.specs.Passes.{standing};
-ghost use Rattle.book.specs.Book.{bookOf};
+ghost use Rattle.rows.specs.Passes.{restingWithin};
+ghost use Rattle.book.specs.Lent.{ownerless};
 ghost use Rattle.book.specs.Allocation.{fill, classOf};
 ghost use Rattle.book.specs.Trading.{reach};
 ghost use Rattle.book.specs.Fit.{Fit};
@@ -31,10 +30,10 @@ pub fn shares(
     numbers: &Column,
 ) -> Column
     requires { ⌜ Fit (now prices) (now sizes) (now numbers) ⌝ }
-    requires { ⌜ all ≡ standing rows (at (now sides)) (at (now prices)) (at (now sizes)) side bound ⌝ }
-    ensures { λ r. ⌜ r ≡ table (fill (reach (bookOf (now (sides .entry)) (now (prices .entry)) (now (sizes .entry)) [] (now (numbers .entry))) side bound) q (classOf allocation)) rows ⌝ }
+    requires { ⌜ all ≡ restingWithin rows (at (now sides)) (at (now prices)) (at (now sizes)) side bound ⌝ }
+    ensures { λ r. ⌜ r ≡ table (fill (reach (ownerless sides prices sizes numbers) side bound) q (classOf allocation)) rows ⌝ }
 {
-    let m = margin_of(side, bound, q, all, sides, prices, sizes);
+    let m = edge_of(side, bound, q, all, sides, prices, sizes);
     if allocation == TIME {
         let line = in_line(side, bound, m, sides, prices, sizes, numbers);
         by_time(side, bound, m, line, sides, prices, sizes, numbers)

@@ -4,8 +4,9 @@ use crate::records::record;
 use crate::shares::shares;
 use rows::Column;
 use rows::ROWS;
-use rows::passes::standing;
+use rows::passes::resting_within;
 use rows::row::beyond;
+use rows::row::lesser_wide;
 use rows::row::wide;
 use units::Cents;
 use units::Contracts;
@@ -14,10 +15,11 @@ ghost use Prim.Native.Nat.{_*_, _-_, min};
 ghost use lib.ListN.{length};
 ghost use Rattle.units.specs.Places.{at, table};
 ghost use Rattle.rows.specs.Rows.{rows};
-ghost use Rattle.book.specs.Book.{bookOf};
+ghost use Rattle.book.specs.Lent.{before, after};
 ghost use Rattle.book.specs.Trading.{traded, afterTrade, tradeWritten};
 ghost use Rattle.book.specs.Answers.{tradedOf};
 ghost use Rattle.book.specs.Fit.{Fit};
+ghost use Rattle.book.specs.Records.{fields};
 
 // Contracts filled, and how many records were written.
 pub struct Traded {
@@ -41,7 +43,7 @@ pub fn remove(quantities: &Column, sizes: &mut Column)
 fn fillable(q: u32, all: u64) -> u32
     ensures { λ r. ⌜ r ≡ min q all ⌝ }
 {
-    if all < wide(q) { all as u32 } else { q }
+    lesser_wide(wide(q), all) as u32
 }
 
 // An order trades with the rows of one side within its bound, best price first, by the class; what each row trades and
@@ -60,13 +62,13 @@ pub fn trade(
     lent: &mut Records,
 ) -> Traded
     requires { ⌜ Fit (now prices) (now sizes) (now numbers) ⌝ }
-    requires { ⌜ length (now lent) ≡ 4 * rows ⌝ }
-    ensures { λ _. ⌜ bookOf (now (sides .entry)) (now (prices .entry)) (now (sizes .exit)) (now (owners .entry)) (now (numbers .entry)) ≡ afterTrade (bookOf (now (sides .entry)) (now (prices .entry)) (now (sizes .entry)) (now (owners .entry)) (now (numbers .entry))) side (bound .0) (q .0) allocation ⌝ }
-    ensures { λ _. ⌜ now (lent .exit) ≡ tradeWritten (bookOf (now (sides .entry)) (now (prices .entry)) (now (sizes .entry)) (now (owners .entry)) (now (numbers .entry))) side (bound .0) (q .0) allocation (now (lent .entry)) ⌝ }
-    ensures { λ _. ⌜ now (shared .exit) ≡ table (traded (bookOf (now (sides .entry)) (now (prices .entry)) (now (sizes .entry)) (now (owners .entry)) (now (numbers .entry))) side (bound .0) (q .0) allocation) rows ⌝ }
-    ensures { λ r. ⌜ r ≡ tradedOf (bookOf (now (sides .entry)) (now (prices .entry)) (now (sizes .entry)) (now (owners .entry)) (now (numbers .entry))) side (bound .0) (q .0) allocation ⌝ }
+    requires { ⌜ length (now lent) ≡ fields * rows ⌝ }
+    ensures { λ _. ⌜ after sides prices sizes owners numbers ≡ afterTrade (before sides prices sizes owners numbers) side (bound .0) (q .0) allocation ⌝ }
+    ensures { λ _. ⌜ now (lent .exit) ≡ tradeWritten (before sides prices sizes owners numbers) side (bound .0) (q .0) allocation (now (lent .entry)) ⌝ }
+    ensures { λ _. ⌜ now (shared .exit) ≡ table (traded (before sides prices sizes owners numbers) side (bound .0) (q .0) allocation) rows ⌝ }
+    ensures { λ r. ⌜ r ≡ tradedOf (before sides prices sizes owners numbers) side (bound .0) (q .0) allocation ⌝ }
 {
-    let all = standing(side, bound.0, sides, prices, sizes);
+    let all = resting_within(side, bound.0, sides, prices, sizes);
     if all == 0 {
         *shared = [0u32; 216];
         return Traded {

@@ -7,11 +7,11 @@ use Rattle.units.specs.declared.Cents.{Cents}
 use Rattle.units.specs.Grid.{lowestOf, onGrid}
 use Rattle.units.specs.Tests.{_and_, _or_, isNot, pick}
 use Rattle.units.specs.Cases.{Case, _when_, firstOf}
-use Rattle.rows.specs.Rows.{rowsATenant}
+use Rattle.rows.specs.Rows.{rowsATenant, lastNumber}
 use Rattle.entry.specs.declared.Entry.{Entry}
 use Rattle.entry.specs.declared.Quotes.{Quotes}
 use Rattle.entry.specs.declared.Terms.{Terms}
-use Rattle.entry.specs.Numbers.{lastNumber, absent, present}
+use Rattle.entry.specs.Numbers.{absent, present}
 use Rattle.entry.specs.Entry.{isLimit, isMarket, isBuy, isSell, isDay, isNow}
 use Rattle.checks.specs.declared.Standing.{Standing}
 

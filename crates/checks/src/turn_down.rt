@@ -11,6 +11,7 @@ use entry::words::less;
 use entry::words::plus;
 use entry::words::wide;
 use rows::BUY;
+use rows::LAST_NUMBER;
 use rows::ROWS_A_TENANT;
 use rows::SELL;
 use units::Cents;
@@ -21,16 +22,14 @@ use units::words::is_not;
 ghost use mathlib.Core.Path.{_≡_};
 ghost use lib.ListN.{drop};
 ghost use Rattle.units.specs.Cases.{firstOf};
-ghost use Rattle.checks.specs.TurnDown.{notYet, offGrid, atStrike, noOffer, unbid, noBid, converts, asJudged, abovePercent, tooWide, farBuy, farSell, farPrice, mightRest, noRoom, usedUp, turnDowns, turnDown};
+ghost use Rattle.checks.specs.TurnDown.{notYet, offGrid, atStrike, noOffer, unbid, noBid, converts, asJudged, abovePercent, tooWide, farBuy};
+ghost use Rattle.checks.specs.TurnDown.{farSell, farPrice, mightRest, noRoom, usedUp, turnDowns, turnDown};
 
 // Without a bid, a market sell is converted where the offer is at most this, in cents.
 const LOW_OFFER: u32 = 50;
 
 // A width is never above this percentage of the mean of the two quotes.
 const WIDEST_PERCENT: u32 = 200;
-
-// The last order number.
-const LAST_NUMBER: u64 = 4294967295;
 
 // 10: before the opening nothing trades, so market orders and orders for now have no use.
 fn not_yet(e: Entry, s: Standing) -> bool

@@ -17,7 +17,7 @@ set-keeps m set = record {
   reset = λ t. refl;
   quoted = λ bid offer. set;
   joins = λ tenant count ns. set;
-  takes = λ t d _ left. left .accepted ∙ set;
+  takes = λ was t d _ left. left .accepted ∙ set;
   opens = λ b ts _ p q. set;
 }
 
@@ -33,7 +33,7 @@ open-keeps m only = record {
   reset = λ t o. refl;
   quoted = λ bid offer. only;
   joins = λ tenant count ns. only;
-  takes = λ t d set left o. left .accepted ∙ set;
+  takes = λ was t d set left o. left .accepted ∙ set;
   opens = λ b ts set p q o. set;
 }
 

@@ -8,7 +8,7 @@ use mathlib.Core.Logic.{_≢_}
 use mathlib.Core.Bool.{true}
 use mathlib.Core.List.{_∷_}
 use Prim.Native.Nat.{ℕ, _<_}
-use Rattle.lanes.specs.Ring.{tenants}
+use Rattle.units.specs.Units.{tenants}
 use Rattle.lanes.specs.Rotation.{on}
 use Rattle.lanes.specs.Waiting.{waiting}
 use Rattle.tally.specs.Tallies.{counted}

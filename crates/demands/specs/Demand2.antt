@@ -10,7 +10,7 @@ use Rattle.units.specs.declared.Cents.{Cents}
 use Rattle.units.specs.declared.Contracts.{Contracts}
 use Rattle.units.specs.declared.grid.Grid.{Grid}
 use Rattle.units.specs.declared.grid.Chosen.the-variants.{One}
-use Rattle.units.specs.Units.{cents, contracts}
+use Rattle.units.specs.Units.{cents, contracts, tenants}
 use Rattle.units.specs.Grid.{gridOf}
 use Rattle.units.specs.Places.{at}
 use Rattle.units.specs.Precedence.{Before}
@@ -18,10 +18,11 @@ use Rattle.units.specs.Sums.{sumTo}
 use Rattle.rows.specs.Rows.{openSize}
 use Rattle.book.specs.Book.{Book, sideAt, priceAt, sizeAt, ownerAt, numberAt, bestBid, bestSell, restingOf, withinBound, rested, crosses}
 use Rattle.book.specs.Allocation.{Resting, left, level}
-use Rattle.book.specs.Opening.{bought, sold, matched, afterFills, matchedRows}
-use Rattle.book.specs.Records.{pos}
+use Rattle.opening.specs.Opening.{bought, sold, matched, afterFills, matchedRows}
+use Rattle.book.specs.Records.{pos, fields}
 use Rattle.book.specs.Sound.{Uncrossed}
 use Rattle.book.specs.Trading.{reach, traded, afterTrade, tradedRows}
+use Rattle.entry.specs.Numbers.{entryNumbers, bulk}
 use Rattle.entry.specs.declared.Entry.{Entry}
 use Rattle.entry.specs.declared.Settings.{Settings}
 use Rattle.entry.specs.Settings.{termsOf}
@@ -30,7 +31,7 @@ use Rattle.checks.specs.TurnDown.{asJudged, mightRest, turnDowns}
 use Rattle.judge.specs.Bound.{boundOf}
 use Rattle.judge.specs.Disposition.{dispositions}
 use Rattle.lanes.specs.declared.Served.the-variants.{Lane}
-use Rattle.lanes.specs.Ring.{entryAt, lenOf, waitingAt, taken as laneTaken}
+use Rattle.lanes.specs.Ring.{entryAt, lenOf, taken as laneTaken}
 use Rattle.lanes.specs.Rotation.{waits, served}
 use Rattle.lanes.specs.Runs.{FirstBusy}
 use Rattle.lanes.specs.Waiting.{waiting, givenIn}
@@ -40,13 +41,14 @@ use Rattle.tally.specs.Tallies.{turnsInAll}
 use Rattle.session.specs.declared.TurnAnswer.{TurnAnswer}
 use Rattle.session.specs.declared.TurnAnswer.the-variants as turn-answer
 use Rattle.session.specs.declared.OpenAnswer.the-variants as open-answer
-use Rattle.session.specs.Market.{Market, marketOf}
-use Rattle.session.specs.Opposite.{opposite}
-use Rattle.session.specs.Settings.{resetOn, settingsOf, withAway, awayOf}
+use Rattle.session.specs.Market.{Market, marketOf, withAway}
+use Rattle.dealing.specs.Settle.{opposite}
+use Rattle.session.specs.Settings.{resetOn, settingsOf, awayOf}
 use Rattle.session.specs.Submit.{withEntries, submitOf}
 use Rattle.session.specs.Turn.{quotesIn, standingOf, turnOf}
-use Rattle.session.specs.Opening.{sourcesOf, openOf}
+use Rattle.session.specs.Open.{sourcesOf, openOf}
 use Rattle.session.specs.Sound.{Sound}
+use Rattle.demands.specs.Runs.{headEntry}
 use Rattle.demands.specs.InOrder.{Rule, _if_, NoneOf, ruled, GivenInOrder}
 
 -- ---- refusal numbers, in order of checking
@@ -80,8 +82,8 @@ awayRules m bid offer = noSettings m ∷ (8 if ((1000000 < bid .0) ⊎ (1000000 
 abbrev pub submitRules : Market → ℕ → ℕ → List ℕ → List Rule
 submitRules m tenant count ns =
     noSettings m
-    ∷ (1 if 9 ≤ tenant)
-    ∷ (3 if ((1 ≤ count) × (count ≤ 20) × (length ns ≡ 6 * count) → ⊥))
+    ∷ (1 if tenants ≤ tenant)
+    ∷ (3 if ((1 ≤ count) × (count ≤ bulk) × (length ns ≡ entryNumbers * count) → ⊥))
     ∷ (2 if ((j : ℕ) × (j < count) × (malformed (entryAt ns j) ≡ true)))
     ∷ (4 if 64 < lenOf (m .session .lanes) tenant + count)
     ∷ []
@@ -91,7 +93,7 @@ submitRules m tenant count ns =
 abbrev pub turnRules : Market → ℕ → List Rule
 turnRules m lent =
     noSettings m
-    ∷ (5 if ((t : ℕ) → t < 9 → lenOf (m .session .lanes) t ≡ 0))
+    ∷ (5 if ((t : ℕ) → t < tenants → lenOf (m .session .lanes) t ≡ 0))
     ∷ (6 if lent < 216)
     ∷ (35 if 1000000000000000000 ≤ turnsInAll (m .session .tallies))
     ∷ []
@@ -168,17 +170,13 @@ pub record TakenBy (m : Market) (lent t : ℕ) : Type 0 where
   pub lane : served (m .session .lanes) ≡ Lane t
 
 module _ (m : Market) (t : ℕ) where
-  -- the head entry of the lane
-  abbrev pub headEntry : Entry
-  headEntry = waitingAt (m .session .lanes) (m .entries) t 0
-
-  -- the rules 10 to 19 for it, with NBB and NBO before it trades
+  -- the rules 10 to 19 for the head entry of the lane, with NBB and NBO before it trades
   abbrev pub turnDownRules : List Rule
-  turnDownRules = ruled (turnDowns headEntry (quotesIn m) (m .session .terms) (standingOf m t))
+  turnDownRules = ruled (turnDowns (headEntry m t) (quotesIn m) (m .session .terms) (standingOf m t))
 
   -- the order as judged: a converted order is a limit from there on
   abbrev pub judged : Entry
-  judged = asJudged headEntry (quotesIn m) (m .session .terms)
+  judged = asJudged (headEntry m t) (quotesIn m) (m .session .terms)
 
   -- the rules for its disposition, with so much of it left
   abbrev pub dispositionRules : ℕ → List Rule
@@ -301,10 +299,10 @@ pub record FilledRight (m : Market) (t : ℕ) (filled : ℕ) : Type 0 where
 
 -- a fill record: order number, tenant, quantity and price
 pub record RecordAt (l : List ℕ) (p number tenant quantity price : ℕ) : Type 0 where
-  pub number-is : at l (4 * p) ≡ number
-  pub tenant-is : at l (4 * p + 1) ≡ tenant
-  pub quantity-is : at l (4 * p + 2) ≡ quantity
-  pub price-is : at l (4 * p + 3) ≡ price
+  pub number-is : at l (fields * p) ≡ number
+  pub tenant-is : at l (fields * p + 1) ≡ tenant
+  pub quantity-is : at l (fields * p + 2) ≡ quantity
+  pub price-is : at l (fields * p + 3) ≡ price
 
 -- the fill records l, of which so many are written over those lent
 pub record RecordedRight (m : Market) (t : ℕ) (was : List ℕ) (fills : ℕ) (l : List ℕ) : Type 0 where
@@ -320,7 +318,7 @@ pub record RecordedRight (m : Market) (t : ℕ) (was : List ℕ) (fills : ℕ) (
   pub rising : (i j : ℕ) → i < m .book .places → 0 < trades m t i → priceAt (m .book) i ≡ priceAt (m .book) j
       → numberAt (m .book) i < numberAt (m .book) j → placeOf m t i < placeOf m t j
   -- records past them stay as found
-  pub past : (k : ℕ) → 4 * fills ≤ k → k < 4 * m .book .places → at l k ≡ at was k
+  pub past : (k : ℕ) → fields * fills ≤ k → k < fields * m .book .places → at l k ≡ at was k
 
 -- the book that the turn leaves: disposition 1 rests what is left at its limit, any other cancels it
 pub record LeftRight (m : Market) (t number filled disposition : ℕ) (b : Book) : Type 0 where
@@ -389,7 +387,7 @@ pub record OpenedAt (m : Market) (was : List ℕ) (p traded fills : ℕ) (l : Li
       → Before (priceAt (m .book) j) (priceAt (m .book) i) (numberAt (m .book) i) (numberAt (m .book) j) → matchOf m p i < matchOf m p j
   pub sells-in-order : (i j : ℕ) → i < m .book .places → 0 < sold (m .book) p i → 0 < sold (m .book) p j
       → Before (priceAt (m .book) i) (priceAt (m .book) j) (numberAt (m .book) i) (numberAt (m .book) j) → matchOf m p i < matchOf m p j
-  pub past : (k : ℕ) → 4 * fills ≤ k → k < 4 * m .book .places → at l k ≡ at was k
+  pub past : (k : ℕ) → fields * fills ≤ k → k < fields * m .book .places → at l k ≡ at was k
   -- what is cancelled goes, and any other row is left with what it did not trade
   pub goes : (i : ℕ) → i < m .book .places → Cancelled m p i → sizeAt after i ≡ 0
   pub stays : (i : ℕ) → i < m .book .places → (Cancelled m p i → ⊥) → sizeAt after i ≡ sizeAt (m .book) i - matched (m .book) p i

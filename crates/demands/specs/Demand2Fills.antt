@@ -13,28 +13,32 @@ use Rattle.units.specs.Picked.{keep}
 use Rattle.units.specs.Places.{at, table-at}
 use Rattle.units.specs.Precedence.{Before, at-better, at-same}
 use Rattle.rows.specs.Rows.{highest, keyOf, within, openSize}
-use Rattle.rows.specs.Passes.{standing}
-use Rattle.margin.specs.RangeLaws.{open-most}
+use Rattle.rows.specs.Passes.{restingWithin}
+use Rattle.allocation.specs.RangeLaws.{open-most}
 use Rattle.book.specs.Book.{Book, sideAt, priceAt, sizeAt, ownerAt, numberAt, rested}
 use Rattle.book.specs.Allocation.{Resting, time, proportion, classOf, left, level, whole, extra, fill}
 use Rattle.book.specs.AllocationLaws.{Distinct, fill-share, best-first, earlier-first, leftover-first}
-use Rattle.book.specs.Records.{pos, records, recorded, fieldOf, written}
+use Rattle.book.specs.Records.{pos, records, recorded, fieldOf, written, fields}
 use Rattle.book.specs.RecordLaws.{pos-less, pos-below, pos-onto, recorded-at}
 use Rattle.book.specs.RecordSums.{written-at}
 use Rattle.book.specs.Sound.{SoundBook}
+use Rattle.book.specs.SoundLaws.{sound-apart, row-of, live-apart}
 use Rattle.book.specs.Trading.{reach, filled as filledBy, traded, afterTrade, tradedRows, tradeRecords, tradeWritten}
-use Rattle.book.specs.TradingLaws.{reach-apart, traded-open, traded-most, traded-side, all-traded}
+use Rattle.book.specs.TradingLaws.{traded-open, traded-most, traded-side, all-traded}
+use Rattle.entry.specs.declared.Away.{Away}
 use Rattle.entry.specs.declared.Entry.{Entry}
 use Rattle.entry.specs.Entry.{isCancel, isBuy, isSell}
 use Rattle.entry.specs.EntryLaws.{new-proper, new-unless-cancel}
-use Rattle.entry.specs.Quotes.{quotesOf}
 use Rattle.checks.specs.AsJudgedLaws.{judged-proper}
 use Rattle.judge.specs.BoundLaws.{buy-limit, buy-away, sell-limit, sell-away}
-use Rattle.session.specs.Market.{Market}
-use Rattle.session.specs.Opposite.{opposite}
-use Rattle.session.specs.Sound.{Ready, Sound}
+use Rattle.session.specs.Market.{Market, floorOn}
+use Rattle.dealing.specs.Settle.{opposite}
+use Rattle.dealing.specs.Sound.{Ready}
+use Rattle.session.specs.Sound.{Sound}
 use Rattle.session.specs.Turn.{quotesIn, turnOf}
-use Rattle.demands.specs.Demand2.{TakenBy, headEntry, judged, boundIn, opensAt, trades, onceTraded, FilledRight, RecordAt, RecordedRight, LeftRight, OrdersFilled}
+use Rattle.demands.specs.Runs.{headEntry}
+use Rattle.demands.specs.TurnCases.{quotes-away}
+use Rattle.demands.specs.Demand2.{TakenBy, judged, boundIn, opensAt, trades, onceTraded, FilledRight, RecordAt, RecordedRight, LeftRight, OrdersFilled}
 use Rattle.demands.specs.Demand2Turn.{set-in, taken-by, serves-first, accepted-served, accepted-traded}
 
 -- ---- one row
@@ -58,7 +62,7 @@ unfolding within
 bid-within bound side price size x = leb-true bound price (open-within 1 bound side price size x)
 
 -- and all that rests of it may be traded
-pub open-whole : (s bound side price size : ℕ) → 0 < openSize s bound side price size → openSize s bound side price size ≡ size
+open-whole : (s bound side price size : ℕ) → 0 < openSize s bound side price size → openSize s bound side price size ≡ size
 unfolding openSize
 open-whole s bound side price size = go (eqb side s && within s price bound)
   where
@@ -67,13 +71,22 @@ open-whole s bound side price size = go (eqb side s && within s price bound)
     go false x = absurd (omega arith)
 
 -- a better price has the lower key
-pub offer-better : (p q : ℕ) → p < q → keyOf 2 p < keyOf 2 q
+offer-better : (p q : ℕ) → p < q → keyOf 2 p < keyOf 2 q
 unfolding keyOf
 offer-better p q h = h
 
-pub bid-better : (p q : ℕ) → q < p → p ≤ highest → keyOf 1 p < keyOf 1 q
+bid-better : (p q : ℕ) → q < p → p ≤ highest → keyOf 1 p < keyOf 1 q
 unfolding keyOf
 bid-better p q h l = omega arith
+
+-- and what comes before by its price and then by its number does so by its key
+pub offers-before : {p q n k : ℕ} → Before p q n k → Before (keyOf 2 p) (keyOf 2 q) n k
+offers-before {p} {q} (at-better l) = at-better (offer-better p q l)
+offers-before (at-same e l) = at-same (ap (keyOf 2) e) l
+
+pub bids-before : {p q n k : ℕ} → p ≤ highest → Before q p n k → Before (keyOf 1 p) (keyOf 1 q) n k
+bids-before {p} {q} most (at-better l) = at-better (bid-better p q l most)
+bids-before most (at-same e l) = at-same (ap (keyOf 1) (sym e)) l
 
 -- ---- the records of rows that traded
 
@@ -83,23 +96,23 @@ module _ (r : Resting) (d : Distinct r) (owner price : ℕ → ℕ) (was : List 
   abbrev l : List ℕ
   l = written r owner price was
 
-  field-at : (f i : ℕ) → f < 4 → i < places → 0 < size i → at l (4 * pos r i + f) ≡ fieldOf r owner price f i
+  field-at : (f i : ℕ) → f < fields → i < places → 0 < size i → at l (fields * pos r i + f) ≡ fieldOf r owner price f i
   field-at f i h p x = written-at r owner price was (pos r i) f (pos-below r i p x) h ∙ recorded-at r d (fieldOf r owner price f) i p x
 
   pub record-of : (i : ℕ) → i < places → 0 < size i → RecordAt l (pos r i) (number i) (owner i) (size i) (price i)
   unfolding fieldOf
   record-of i p x = record {
-    number-is = ap (at l) (sym (add-zero (4 * pos r i))) ∙ field-at 0 i (omega arith) p x;
+    number-is = ap (at l) (sym (add-zero (fields * pos r i))) ∙ field-at 0 i (omega arith) p x;
     tenant-is = field-at 1 i (omega arith) p x;
     quantity-is = field-at 2 i (omega arith) p x;
     price-is = field-at 3 i (omega arith) p x;
   }
 
-  pub past-records : (k : ℕ) → 4 * records r ≤ k → k < 4 * places → at l k ≡ at was k
+  pub past-records : (k : ℕ) → fields * records r ≤ k → k < fields * places → at l k ≡ at was k
   unfolding written
   past-records k h p =
-      table-at (λ j. cond (ltb (j / 4) (records r)) (recorded r (fieldOf r owner price (j % 4)) (j / 4)) (at was j)) (4 * places) k p
-      ∙ rw (le-ltb (k / 4) (records r) (omega arith)) refl
+      table-at (λ j. cond (ltb (j / fields) (records r)) (recorded r (fieldOf r owner price (j % fields)) (j / fields)) (at was j)) (fields * places) k p
+      ∙ rw (le-ltb (k / fields) (records r) (omega arith)) refl
 
 -- ---- a book's rows and an order
 
@@ -110,20 +123,17 @@ module _ (b : Book) (next : ℕ) (sound : SoundBook b next) (side bound q alloca
   abbrev opens : ℕ → ℕ
   opens = reach b side bound .size
 
-  apart : Distinct (reach b side bound)
-  apart = reach-apart b side bound (λ i j p p′. sound .apart i j (omega (arith, sound .places)) (omega (arith, sound .places)))
-
-  best : (i j : ℕ) → i < b .places → j < b .places → 0 < t i → 0 < opens j → keyOf side (priceAt b j) < keyOf side (priceAt b i) → t j ≡ sizeAt b j
+  pub best : (i j : ℕ) → i < b .places → j < b .places → 0 < t i → 0 < opens j → keyOf side (priceAt b j) < keyOf side (priceAt b i) → t j ≡ sizeAt b j
   unfolding traded
   best i j p p′ x y h =
-      best-first (reach b side bound) q apart (classOf allocation) i j p p′ x h ∙ open-whole side bound (sideAt b j) (priceAt b j) (sizeAt b j) y
+      best-first (reach b side bound) q (sound-apart sound side bound) (classOf allocation) i j p p′ x h ∙ open-whole side bound (sideAt b j) (priceAt b j) (sizeAt b j) y
 
-  early : allocation ≡ 1 → (i j : ℕ) → j < b .places → 0 < t i → 0 < opens j → priceAt b j ≡ priceAt b i → numberAt b j < numberAt b i → t j ≡ sizeAt b j
+  pub early : allocation ≡ 1 → (i j : ℕ) → j < b .places → 0 < t i → 0 < opens j → keyOf side (priceAt b j) ≡ keyOf side (priceAt b i) → numberAt b j < numberAt b i → t j ≡ sizeAt b j
   unfolding traded classOf
   early one i j p x y e h =
       let x′ : 0 < fill (reach b side bound) q time i = rw (one) at x in
       rw one
-      (earlier-first (reach b side bound) q i j p x′ (ap (keyOf side) e) h ∙ open-whole side bound (sideAt b j) (priceAt b j) (sizeAt b j) y)
+      (earlier-first (reach b side bound) q i j p x′ e h ∙ open-whole side bound (sideAt b j) (priceAt b j) (sizeAt b j) y)
 
   module _ (two : allocation ≡ 2) where
     in-proportion : (i : ℕ) → t i ≡ fill (reach b side bound) q proportion i
@@ -163,7 +173,7 @@ module _ (b : Book) (next : ℕ) (sound : SoundBook b next) (side bound q alloca
   rows-traded = tradedRows b side bound q allocation
 
   rows-apart : Distinct rows-traded
-  rows-apart i j p p′ x y e = sound .apart i j (omega (arith, sound .places)) (omega (arith, sound .places))
+  rows-apart i j p p′ x y e = live-apart sound i j p p′
       (omega (arith, traded-most b side bound q allocation i)) (omega (arith, traded-most b side bound q allocation j)) e
 
 -- ---- the order
@@ -174,7 +184,7 @@ buys-offers e h = pick-yes 2 1 h
 sells-bids : (e : Entry) → isSell e ≡ true → opposite e ≡ 1
 sells-bids e h = let k = eqb-true (e .side) 2 h in pick-no 2 1 (ne-eqb (e .side) 1 (λ f. omega arith))
 
-module _ (m : Market) (ready : Ready (m .session) (m .book)) (t : ℕ) where
+module _ (m : Market) (ready : Ready (floorOn (m .session) (m .book))) (t : ℕ) where
   abbrev b : Book
   b = m .book
 
@@ -199,7 +209,7 @@ module _ (m : Market) (ready : Ready (m .session) (m .book)) (t : ℕ) where
   -- a row that may be traded has a price
   priced : (i : ℕ) → i < b .places → 0 < opensAt m t i → priceAt b i ≤ highest
   priced i p x =
-      ready .book .row i (omega (arith, ready .book .places)) (omega (arith, open-most side (boundIn m t) (sideAt b i) (priceAt b i) (sizeAt b i))) .price-most
+      row-of (ready .book) i p (omega (arith, open-most side (boundIn m t) (sideAt b i) (priceAt b i) (sizeAt b i))) .price-most
 
   offers-first : isBuy e ≡ true → (i j : ℕ) → priceAt b j < priceAt b i → keyOf side (priceAt b j) < keyOf side (priceAt b i)
   offers-first h i j l = rw (buys-offers e h) (offer-better (priceAt b j) (priceAt b i) l)
@@ -209,18 +219,20 @@ module _ (m : Market) (ready : Ready (m .session) (m .book)) (t : ℕ) where
 
   -- nor is the bound worse than the away quote
   buy-quoted : isBuy e ≡ true → 0 < m .session .away .offer .0 → boundIn m t ≤ m .session .away .offer .0
-  unfolding quotesIn quotesOf
-  buy-quoted h a = buy-away e (quotesIn m) (m .session .terms) h (lt-ltb 0 (m .session .away .offer .0) a)
+  buy-quoted h a =
+      let same = ap (λ (x : Away). x .offer .0) (quotes-away m) in
+      omega (arith, buy-away e (quotesIn m) (m .session .terms) h (lt-ltb 0 (quotesIn m .away .offer .0) (omega arith)))
 
   sell-quoted : isSell e ≡ true → 0 < m .session .away .bid .0 → m .session .away .bid .0 ≤ boundIn m t
-  unfolding quotesIn quotesOf
-  sell-quoted h a = sell-away e (quotesIn m) (m .session .terms) h (lt-ltb 0 (m .session .away .bid .0) a)
+  sell-quoted h a =
+      let same = ap (λ (x : Away). x .bid .0) (quotes-away m) in
+      omega (arith, sell-away e (quotesIn m) (m .session .terms) h (lt-ltb 0 (quotesIn m .away .bid .0) (omega arith)))
 
   filled-right : (filled : ℕ) → filled ≡ filledBy b side (boundIn m t) (e .size .0) → (isBuy e ≡ true) ⊎ (isSell e ≡ true) → FilledRight m t filled
-  unfolding filledBy standing whole
+  unfolding filledBy restingWithin whole
   filled-right filled is sides = record {
     lesser = is;
-    in-all = all-traded b side (boundIn m t) (e .size .0) allocation (apart b _ (ready .book) side (boundIn m t) (e .size .0) allocation) ∙ sym is;
+    in-all = all-traded b side (boundIn m t) (e .size .0) allocation (sound-apart (ready .book) side (boundIn m t)) ∙ sym is;
     most = traded-open b side (boundIn m t) (e .size .0) allocation;
     opposite-side = traded-side b side (boundIn m t) (e .size .0) allocation;
     sided = sides;
@@ -230,7 +242,7 @@ module _ (m : Market) (ready : Ready (m .session) (m .book)) (t : ℕ) where
     sell-away = λ h a i x. omega (arith, sell-within h i x, sell-quoted h a);
     buy-best = λ h i j p p′ x y l. best b _ (ready .book) side (boundIn m t) (e .size .0) allocation i j p p′ x y (offers-first h i j l);
     sell-best = λ h i j p p′ x y l. best b _ (ready .book) side (boundIn m t) (e .size .0) allocation i j p p′ x y (bids-first h i j p′ y l);
-    by-time = early b _ (ready .book) side (boundIn m t) (e .size .0) allocation;
+    by-time = λ one i j p x y same. early b _ (ready .book) side (boundIn m t) (e .size .0) allocation one i j p x y (ap (keyOf side) same);
     all-fill = all-of-it b _ (ready .book) side (boundIn m t) (e .size .0) allocation;
     shares = shared b _ (ready .book) side (boundIn m t) (e .size .0) allocation;
     leftovers = one-more b _ (ready .book) side (boundIn m t) (e .size .0) allocation;

@@ -1,161 +1,121 @@
 -- Demand 2's opening: the laws of the match at one price, told of an accepted open.
 use mathlib.Core.Path.{_≡_, refl, sym, _∙_, ap, subst}
 use mathlib.Core.Logic.{_↔_, _⊎_, inl, inr, ⊎-elim}
-use mathlib.Core.Bool.{Bool, true, false, _&&_, _||_, cond, and-eq-true-iff}
+use mathlib.Core.Bool.{Bool, true, false, _&&_, _||_, cond, and-eq-true-iff, true≢false}
 use mathlib.Core.List.{List}
-use Prim.Native.Nat.{ℕ, _-_, _≤_, _<_}
+use Prim.Native.Nat.{ℕ, _+_, _-_, _≤_, _<_}
 use native.Mathlib.Omega.{arith}
 use lib.Dec.{leb, ltb, eqb}
-use borrow.Author.Tests.{lt-ltb, le-leb, eq-eqb, ne-eqb, ltb-true, ltb-false, leb-true, eqb-true}
+use borrow.Author.Tests.{lt-ltb, le-leb, eq-eqb, ltb-true, leb-true, eqb-true}
 use Rattle.units.specs.declared.Cents.{Cents}
 use Rattle.units.specs.declared.Contracts.{Contracts}
 use Rattle.units.specs.Units.{cents}
-use Rattle.units.specs.Tests.{pick, fails, holds-not-fails}
+use Rattle.units.specs.Tests.{fails, holds-not-fails}
 use Rattle.units.specs.Places.{table-at}
 use Rattle.units.specs.Precedence.{Before, at-better, at-same}
-use Rattle.rows.specs.Rows.{highest, keyOf}
-use Rattle.rows.specs.Passes.{standing}
-use Rattle.margin.specs.RangeLaws.{open-most}
+use Rattle.rows.specs.Rows.{highest, keyOf, selling}
+use Rattle.rows.specs.Passes.{restingWithin}
+use Rattle.allocation.specs.RangeLaws.{open-most}
 use Rattle.book.specs.Book.{Book, sideAt, priceAt, sizeAt, ownerAt, numberAt, bestBid, bestSell, withinBound, crosses}
-use Rattle.book.specs.Allocation.{Resting, time}
-use Rattle.book.specs.AllocationLaws.{fill-most, best-first, earlier-first}
-use Rattle.book.specs.Opening.{sortKey, volume, bought, sold, matched, afterFills, buyGoes, sellGoes, afterOpening, matchedRows, openingRecords, openingWritten}
-use Rattle.book.specs.OpeningLaws.{matched-most, left-is, all-bought, all-sold, matched-apart}
-use Rattle.book.specs.Records.{pos}
+use Rattle.book.specs.Allocation.{Resting, classOf}
+use Rattle.opening.specs.Opening.{volume, bought, sold, matched, afterFills, buyGoes, sellGoes, afterOpening, matchedRows, openingRecords, openingWritten}
+use Rattle.opening.specs.OpeningLaws.{matched-most, left-is, all-bought, all-sold, matched-apart}
+use Rattle.opening.specs.OpeningSums.{buy-first}
+use Rattle.opening.specs.OpeningSoundLaws.{opening-uncrossed}
+use Rattle.book.specs.Records.{sortKey, pos}
 use Rattle.book.specs.RecordLaws.{pos-less, pos-below, pos-onto}
 use Rattle.book.specs.Sound.{SoundBook, Uncrossed}
-use Rattle.book.specs.SoundLaws.{opening-uncrossed, quiet-uncrossed}
-use Rattle.book.specs.Trading.{reach}
-use Rattle.book.specs.TradingLaws.{open-side, reach-apart}
-use Rattle.price.specs.declared.Choice.{Choice}
+use Rattle.book.specs.SoundLaws.{quiet-uncrossed, row-of, live-apart}
+use Rattle.book.specs.Trading.{reach, traded}
+use Rattle.book.specs.TradingLaws.{open-side, traded-open}
 use Rattle.price.specs.declared.Choice.the-variants.{At}
-use Rattle.price.specs.Price.{chosen}
-use Rattle.price.specs.PriceLaws.{NoneUsable, First, at-midpoint, at-print, at-close, nowhere, chosen-first}
+use Rattle.price.specs.PriceLaws.{First}
 use Rattle.session.specs.declared.OpenAnswer.{OpenAnswer}
 use Rattle.session.specs.declared.OpenAnswer.the-variants as answer
 use Rattle.session.specs.Market.{Market}
-use Rattle.session.specs.Opening.{OpenDone, fillsIn, sourcesOf, choiceOf, openRefusal, openQuiet, openAt, openOf}
+use Rattle.session.specs.Open.{OpenDone, printed, fillsIn, sourcesOf, openQuiet, openAt}
 use Rattle.session.specs.Sound.{Sound}
-use Rattle.demands.specs.InOrder.{NoneOf}
-use Rattle.demands.specs.Demand2.{openRules, onceFilled, Cancelled, OpenedAt, OpenedRight}
-use Rattle.demands.specs.Demand2Refusals.{open-kind, open-taken}
-use Rattle.demands.specs.Demand2Fills.{open-whole, offer-better, bid-better, record-of, past-records}
-
--- ---- what an open comes to
-
-module _ (m : Market) (lent : ℕ) (was : List ℕ) where
-  data Outcome : OpenDone → Type 0 where
-    refused : (n : ℕ) → Outcome (record { market = m; answer = answer.Refused n; records = was })
-    quiet : m .session .accepted ≡ true → crosses (m .book) ≡ false → Outcome (openQuiet m was)
-    opens : (p : Cents) → m .session .accepted ≡ true → crosses (m .book) ≡ true → First (sourcesOf (m .session)) (At p) → Outcome (openAt m was (p .0))
-
-  by-price : m .session .accepted ≡ true → crosses (m .book) ≡ true → (NoneUsable (sourcesOf (m .session)) → ⊥)
-      → {c : Choice} → First (sourcesOf (m .session)) c → Outcome (openAt m was (chosen c))
-  by-price set c some (at-midpoint i) = opens _ set c (at-midpoint i)
-  by-price set c some (at-print i j) = opens _ set c (at-print i j)
-  by-price set c some (at-close i j k) = opens _ set c (at-close i j k)
-  by-price set c some (nowhere n) = absurd (some n)
-
-  not-shut : NoneOf (openRules m lent) → m .session .accepted ≡ true
-  not-shut n = go (m .session .accepted) refl
-    where
-      go : (b : Bool) → m .session .accepted ≡ b → m .session .accepted ≡ true
-      go true h = h
-      go false h = absurd (n .0 h)
-
-  by-book : NoneOf (openRules m lent) → (c : Bool) → crosses (m .book) ≡ c
-      → Outcome (pick c (openAt m was (chosen (choiceOf (m .session)))) (openQuiet m was))
-  unfolding pick choiceOf
-  by-book n true h = by-price (not-shut n) h (λ u. n .1 .1 .1 .0 (h, u)) (chosen-first (sourcesOf (m .session)))
-  by-book n false h = quiet (not-shut n) h
-
-  by-refusal : (b : Bool) → ltb 0 (openRefusal m lent) ≡ b
-      → Outcome (pick b (record { market = m; answer = answer.Refused (openRefusal m lent); records = was })
-      (pick (crosses (m .book)) (openAt m was (chosen (choiceOf (m .session)))) (openQuiet m was)))
-  unfolding pick
-  by-refusal true h = refused (openRefusal m lent)
-  by-refusal false h = by-book (open-taken m lent was .0 (omega (arith, ltb-false 0 (openRefusal m lent) h))) (crosses (m .book)) refl
-
-  outcome : Outcome (openOf m lent was)
-  unfolding openOf
-  outcome = by-refusal (ltb 0 (openRefusal m lent)) refl
+use Rattle.demands.specs.Runs.{opened, isRefused}
+use Rattle.demands.specs.Demand2.{onceFilled, Cancelled, OpenedAt, OpenedRight}
+use Rattle.demands.specs.OpenCases.{Outcome, refused, quiet, opens, open-set, outcome}
+use Rattle.demands.specs.Demand2Fills.{offers-before, bids-before, record-of, past-records, best, early}
 
 -- ---- the match
 
-sort-first : (a b x y : ℕ) → a ≡ 1 → b ≡ 2 → sortKey a x < sortKey b y
-unfolding sortKey
-sort-first a b x y e e′ = rw (ne-eqb a 2 (omega arith), eq-eqb b 2 e′) (omega arith)
+-- a row's place among the records of its own side goes by its key
+sort-before : (s x y : ℕ) {n k : ℕ} → Before (keyOf s x) (keyOf s y) n k → Before (sortKey s x) (sortKey s y) n k
+unfolding sortKey keyOf
+sort-before s x y {n} {k} = go (eqb s 2)
+  where
+    go : (t : Bool) → Before (cond t x (highest - x)) (cond t y (highest - y)) n k → Before (cond t (highest + 1 + x) (highest - x)) (cond t (highest + 1 + y) (highest - y)) n k
+    go true (at-better l) = at-better (omega arith)
+    go true (at-same e l) = at-same (omega arith) l
+    go false before = before
 
 module _ (b : Book) (next : ℕ) (sound : SoundBook b next) (p : ℕ) where
-  apart : (i j : ℕ) → i < b .places → j < b .places → 0 < sizeAt b i → 0 < sizeAt b j → numberAt b i ≡ numberAt b j → i ≡ j
-  apart i j h h′ = sound .apart i j (omega (arith, sound .places)) (omega (arith, sound .places))
+  -- what a side trades is what an order for the volume would trade with it in the time class
+  abbrev onSide : ℕ → ℕ → ℕ
+  onSide s = traded b s p (volume b p) 1
 
-  price-most : (i : ℕ) → i < b .places → 0 < sizeAt b i → priceAt b i ≤ highest
-  price-most i h x = sound .row i (omega (arith, sound .places)) x .price-most
+  best-on : (s i j : ℕ) → i < b .places → j < b .places → 0 < onSide s i → 0 < reach b s p .size j
+      → Before (keyOf s (priceAt b j)) (keyOf s (priceAt b i)) (numberAt b j) (numberAt b i) → onSide s j ≡ sizeAt b j
+  best-on s i j h h′ x y (at-better l) = best b next sound s p (volume b p) 1 i j h h′ x y l
+  best-on s i j h h′ x y (at-same e l) = early b next sound s p (volume b p) 1 refl i j h′ x y e l
 
   buy-open : (i : ℕ) → bought b p i ≤ reach b 1 p .size i
-  unfolding bought
-  buy-open i = fill-most (reach b 1 p) (volume b p) time i
+  unfolding bought traded classOf
+  buy-open i = traded-open b 1 p (volume b p) 1 i
 
   sell-open : (i : ℕ) → sold b p i ≤ reach b 2 p .size i
-  unfolding sold
-  sell-open i = fill-most (reach b 2 p) (volume b p) time i
+  unfolding sold traded classOf
+  sell-open i = traded-open b 2 p (volume b p) 1 i
 
   best-buys : (i j : ℕ) → i < b .places → j < b .places → 0 < bought b p i → 0 < reach b 1 p .size j
       → Before (priceAt b i) (priceAt b j) (numberAt b j) (numberAt b i) → bought b p j ≡ sizeAt b j
-  unfolding bought
-  best-buys i j h h′ x y (at-better l) =
-      best-first (reach b 1 p) (volume b p) (reach-apart b 1 p apart) time i j h h′ x
-      (bid-better (priceAt b j) (priceAt b i) l (price-most j h′ (omega (arith, open-most 1 p (sideAt b j) (priceAt b j) (sizeAt b j)))))
-      ∙ open-whole 1 p (sideAt b j) (priceAt b j) (sizeAt b j) y
-  best-buys i j h h′ x y (at-same e l) =
-      earlier-first (reach b 1 p) (volume b p) i j h′ x (ap (keyOf 1) (sym e)) l ∙ open-whole 1 p (sideAt b j) (priceAt b j) (sizeAt b j) y
+  unfolding bought traded classOf
+  best-buys i j h h′ x y before =
+      let rests : 0 < sizeAt b j = omega (arith, open-most 1 p (sideAt b j) (priceAt b j) (sizeAt b j)) in
+      best-on 1 i j h h′ x y (bids-before (row-of sound j h′ rests .price-most) before)
 
   best-sells : (i j : ℕ) → i < b .places → j < b .places → 0 < sold b p i → 0 < reach b 2 p .size j
       → Before (priceAt b j) (priceAt b i) (numberAt b j) (numberAt b i) → sold b p j ≡ sizeAt b j
-  unfolding sold
-  best-sells i j h h′ x y (at-better l) =
-      best-first (reach b 2 p) (volume b p) (reach-apart b 2 p apart) time i j h h′ x (offer-better (priceAt b j) (priceAt b i) l)
-      ∙ open-whole 2 p (sideAt b j) (priceAt b j) (sizeAt b j) y
-  best-sells i j h h′ x y (at-same e l) =
-      earlier-first (reach b 2 p) (volume b p) i j h′ x (ap (keyOf 2) e) l ∙ open-whole 2 p (sideAt b j) (priceAt b j) (sizeAt b j) y
+  unfolding sold traded classOf
+  best-sells i j h h′ x y before = best-on 2 i j h h′ x y (offers-before before)
 
   -- ---- the records
 
   abbrev r : Resting
   r = matchedRows b p
 
-  buys-matched : (i : ℕ) → 0 < bought b p i → (sideAt b i ≡ 1) × (0 < matched b p i)
+  -- a row of a side that traded
+  abbrev MatchedOn : ℕ → ℕ → Type 0
+  MatchedOn s i = (sideAt b i ≡ s) × (0 < matched b p i)
+
+  buys-matched : (i : ℕ) → 0 < bought b p i → MatchedOn 1 i
   unfolding matched
   buys-matched i x = (open-side 1 p (sideAt b i) (priceAt b i) (sizeAt b i) (omega (arith, buy-open i)), omega arith)
 
-  sells-matched : (i : ℕ) → 0 < sold b p i → (sideAt b i ≡ 2) × (0 < matched b p i)
+  sells-matched : (i : ℕ) → 0 < sold b p i → MatchedOn 2 i
   unfolding matched
   sells-matched i x = (open-side 2 p (sideAt b i) (priceAt b i) (sizeAt b i) (omega (arith, sell-open i)), omega arith)
 
   buys-then-sells : (i j : ℕ) → i < b .places → 0 < bought b p i → 0 < sold b p j → pos r i < pos r j
   buys-then-sells i j h x y =
-      pos-less r i j h (buys-matched i x .1) (at-better (sort-first (sideAt b i) (sideAt b j) (priceAt b i) (priceAt b j) (buys-matched i x .0) (sells-matched j y .0)))
+      pos-less r i j h (buys-matched i x .1) (at-better (buy-first (sideAt b i) (sideAt b j) (priceAt b i) (priceAt b j) (ap selling (buys-matched i x .0)) (ap selling (sells-matched j y .0))))
+
+  side-ordered : (s i j : ℕ) → i < b .places → MatchedOn s i → MatchedOn s j
+      → Before (keyOf s (priceAt b i)) (keyOf s (priceAt b j)) (numberAt b i) (numberAt b j) → pos r i < pos r j
+  side-ordered s i j h (e, x) (e′, _) before = pos-less r i j h x (rw (e, e′) (sort-before s (priceAt b i) (priceAt b j) before))
 
   buys-ordered : (i j : ℕ) → i < b .places → 0 < bought b p i → 0 < bought b p j
       → Before (priceAt b j) (priceAt b i) (numberAt b i) (numberAt b j) → pos r i < pos r j
-  unfolding sortKey
-  buys-ordered i j h x y before = pos-less r i j h (buys-matched i x .1) (go before)
-    where
-      go : Before (priceAt b j) (priceAt b i) (numberAt b i) (numberAt b j)
-          → Before (sortKey (sideAt b i) (priceAt b i)) (sortKey (sideAt b j) (priceAt b j)) (numberAt b i) (numberAt b j)
-      go (at-better l) = at-better (rw (buys-matched i x .0, buys-matched j y .0) (omega (arith, price-most i h (omega (arith, buys-matched i x .1, matched-most b p i)))))
-      go (at-same e l) = at-same (rw (buys-matched i x .0, buys-matched j y .0, e) refl) l
+  buys-ordered i j h x y before =
+      let rests : 0 < sizeAt b i = omega (arith, buys-matched i x .1, matched-most b p i) in
+      side-ordered 1 i j h (buys-matched i x) (buys-matched j y) (bids-before (row-of sound i h rests .price-most) before)
 
   sells-ordered : (i j : ℕ) → i < b .places → 0 < sold b p i → 0 < sold b p j
       → Before (priceAt b i) (priceAt b j) (numberAt b i) (numberAt b j) → pos r i < pos r j
-  unfolding sortKey
-  sells-ordered i j h x y before = pos-less r i j h (sells-matched i x .1) (go before)
-    where
-      go : Before (priceAt b i) (priceAt b j) (numberAt b i) (numberAt b j)
-          → Before (sortKey (sideAt b i) (priceAt b i)) (sortKey (sideAt b j) (priceAt b j)) (numberAt b i) (numberAt b j)
-      go (at-better l) = at-better (rw (sells-matched i x .0, sells-matched j y .0) (omega arith))
-      go (at-same e l) = at-same (rw (sells-matched i x .0, sells-matched j y .0, e) refl) l
+  sells-ordered i j h x y before = side-ordered 2 i j h (sells-matched i x) (sells-matched j y) (offers-before before)
 
 -- ---- what is cancelled
 
@@ -195,40 +155,34 @@ module _ (m : Market) (p : ℕ) where
 
 -- ---- an accepted open
 
--- its price and its volume
-priceIn : OpenAnswer → ℕ
-priceIn (answer.Refused n) = 0
-priceIn (answer.AtPrice p v k) = p .0
-
-volumeIn : OpenAnswer → ℕ
-volumeIn (answer.Refused n) = 0
-volumeIn (answer.AtPrice p v k) = v .0
-
 module _ (m : Market) (was : List ℕ) (next : ℕ) (sound : SoundBook (m .book) next) (p : ℕ) where
   abbrev b : Book
   b = m .book
 
   opened-at : (traded fills : ℕ) → First (sourcesOf (m .session)) (At (cents p)) → traded ≡ volume b p → fills ≡ openingRecords b p
       → OpenedAt m was p traded fills (openingWritten b p was) (afterOpening b p)
-  unfolding volume standing openingRecords openingWritten
+  unfolding volume restingWithin openingRecords openingWritten
   opened-at traded fills price is count = record {
     price = price;
     lesser = is;
-    in-all-bought = all-bought b p (apart b next sound p) ∙ sym is;
-    in-all-sold = all-sold b p (apart b next sound p) ∙ sym is;
+    in-all-bought = all-bought b p (live-apart sound) ∙ sym is;
+    in-all-sold = all-sold b p (live-apart sound) ∙ sym is;
     bought-most = buy-open b next sound p;
     sold-most = sell-open b next sound p;
     buys-best = best-buys b next sound p;
     sells-best = best-sells b next sound p;
-    of-row = λ i h x. (rw count (pos-below (matchedRows b p) i h x), record-of (matchedRows b p) (matched-apart b p (apart b next sound p)) (ownerAt b) (λ _. p) was i h x);
-    all-rows = λ k h. pos-onto (matchedRows b p) (matched-apart b p (apart b next sound p)) k (omega (arith, count));
+    of-row = λ i h x. (rw count (pos-below (matchedRows b p) i h x), record-of (matchedRows b p) (matched-apart b p (live-apart sound)) (ownerAt b) (λ _. p) was i h x);
+    all-rows = λ k h. pos-onto (matchedRows b p) (matched-apart b p (live-apart sound)) k (omega (arith, count));
     buys-first = buys-then-sells b next sound p;
     buys-in-order = λ i j h h′. buys-ordered b next sound p i j h;
     sells-in-order = sells-ordered b next sound p;
-    past = λ k h l. past-records (matchedRows b p) (matched-apart b p (apart b next sound p)) (ownerAt b) (λ _. p) was k (omega (arith, count)) l;
+    past = λ k h l. past-records (matchedRows b p) (matched-apart b p (live-apart sound)) (ownerAt b) (λ _. p) was k (omega (arith, count)) l;
     goes = opened-goes m p;
     stays = opened-stays m p;
   }
+
+abbrev refuses : OpenAnswer → Bool
+refuses a = isRefused (opened a)
 
 module _ (m : Market) (lent : ℕ) (was : List ℕ) (price : Cents) (traded : Contracts) (fills : ℕ) where
   abbrev accepted : OpenAnswer
@@ -236,26 +190,26 @@ module _ (m : Market) (lent : ℕ) (was : List ℕ) (price : Cents) (traded : Co
 
   opens-quietly : crosses (m .book) ≡ false → {d : OpenDone} → Outcome m lent was d → d .answer ≡ accepted
       → (price .0 ≡ 0) × (traded .0 ≡ 0) × (fills ≡ 0) × (d .market .book ≡ m .book) × (d .records ≡ was)
-  unfolding open-kind openQuiet priceIn volumeIn
-  opens-quietly h (refused n) x = absurd (omega (arith, ap open-kind x))
-  opens-quietly h (quiet set c) x = (sym (ap priceIn x), sym (ap volumeIn x), sym (ap fillsIn x), refl, refl)
-  opens-quietly h (opens p set c f) x = absurd (holds-not-fails c h)
+  unfolding openQuiet
+  opens-quietly h (refused n) x = absurd (true≢false (ap refuses x))
+  opens-quietly h (quiet e c) x = (sym (ap (λ a. printed a .price) x), sym (ap (λ a. printed a .volume) x), sym (ap fillsIn x), refl, refl)
+  opens-quietly h (opens p e c f) x = absurd (holds-not-fails c h)
 
   opens-at : Sound m → crosses (m .book) ≡ true → {d : OpenDone} → Outcome m lent was d → d .answer ≡ accepted
       → OpenedAt m was (price .0) (traded .0) fills (d .records) (d .market .book)
-  unfolding open-kind openAt priceIn volumeIn
-  opens-at sound h (refused n) x = absurd (omega (arith, ap open-kind x))
-  opens-at sound h (quiet set c) x = absurd (holds-not-fails h c)
-  opens-at sound h (opens p set c f) x =
-      subst (λ k. OpenedAt m was k (traded .0) fills (openingWritten (m .book) (p .0) was) (afterOpening (m .book) (p .0))) (ap priceIn x)
-      (opened-at m was (m .session .next) (sound set .ready .book) (p .0) (traded .0) fills f (sym (ap volumeIn x)) (sym (ap fillsIn x)))
+  unfolding openAt
+  opens-at sound h (refused n) x = absurd (true≢false (ap refuses x))
+  opens-at sound h (quiet e c) x = absurd (holds-not-fails h c)
+  opens-at sound h (opens p e c f) x =
+      subst (λ k. OpenedAt m was k (traded .0) fills (openingWritten (m .book) (p .0) was) (afterOpening (m .book) (p .0))) (ap (λ a. printed a .price) x)
+      (opened-at m was (m .session .next) (sound (open-set m lent e) .ready .book) (p .0) (traded .0) fills f (sym (ap (λ a. printed a .volume) x)) (sym (ap fillsIn x)))
 
   opens-uncrossed : Sound m → {d : OpenDone} → Outcome m lent was d → d .answer ≡ accepted
       → (d .market .session .opened ≡ true) × Uncrossed (d .market .book)
-  unfolding open-kind openAt openQuiet
-  opens-uncrossed sound (refused n) x = absurd (omega (arith, ap open-kind x))
-  opens-uncrossed sound (quiet set c) x = (refl, quiet-uncrossed (sound set .ready .book) c)
-  opens-uncrossed sound (opens p set c f) x = (refl, opening-uncrossed (sound set .ready .book) (p .0))
+  unfolding openAt openQuiet
+  opens-uncrossed sound (refused n) x = absurd (true≢false (ap refuses x))
+  opens-uncrossed sound (quiet e c) x = (refl, quiet-uncrossed (sound (open-set m lent e) .ready .book) c)
+  opens-uncrossed sound (opens p e c f) x = (refl, opening-uncrossed (sound (open-set m lent e) .ready .book) (p .0))
 
 pub opened-right : OpenedRight
 opened-right = record {

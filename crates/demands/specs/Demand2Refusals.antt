@@ -1,5 +1,5 @@
 -- Demand 2's refusals: each call's list of tests reads as its rules.
-use mathlib.Core.Path.{_≡_, refl, sym, _∙_, ap}
+use mathlib.Core.Path.{_≡_, refl, ap}
 use mathlib.Core.Logic.{_↔_, _⊎_, inl, inr, ⊎-elim, ⊎-map}
 use mathlib.Core.Bool.{Bool, true, false, cond, _&&_}
 use mathlib.Core.List.{List}
@@ -8,43 +8,51 @@ use native.Mathlib.Omega.{arith}
 use lib.Dec.{leb, ltb, eqb}
 use lib.ListN.{length}
 use borrow.Author.Tests.{lt-ltb, le-ltb, ltb-true, ltb-false, le-leb, leb-true, eq-eqb, eqb-true, eqb-false}
+use Rattle.units.specs.Units.{tenants}
 use Rattle.units.specs.declared.Cents.{Cents}
 use Rattle.units.specs.declared.grid.Grid.{Grid}
+use Rattle.units.specs.declared.grid.Chosen.{Chosen}
 use Rattle.units.specs.declared.grid.Chosen.the-variants.{One, NoSuch}
-use Rattle.units.specs.Grid.{stepping}
+use Rattle.units.specs.Grid.{gridOf, stepping}
 use Rattle.units.specs.Picked.{keep}
 use Rattle.units.specs.Leasts.{least-found, greatest-found, greatest-most}
-use Rattle.units.specs.Tests.{_and_, _or_, isNot, pick, and-true, and-holds, or-true, not-holds, not-fails, fails, holds-not-fails, order, less, equal, more}
-use Rattle.units.specs.Cases.{Case, firstOf}
-use Rattle.units.specs.CaseLaws.{apart}
+use Rattle.units.specs.Tests.{_and_, _or_, isNot, and-true, and-holds, or-true, not-holds, not-fails, fails, holds-not-fails, order, less, equal, more}
 use Rattle.units.specs.Firsts.{firstTo, first-holds, first-least, first-before}
-use Rattle.rows.specs.Rows.{rows, highest, noPrice, buyPrice, sellPrice}
+use Rattle.rows.specs.Rows.{highest, noPrice, buyPrice, sellPrice}
 use Rattle.rows.specs.Passes.{highestBuy, lowestSell}
 use Rattle.book.specs.Book.{Book, sideAt, priceAt, sizeAt, bestBid, bestSell, crosses}
+use Rattle.book.specs.SoundLaws.{row-of}
 use Rattle.book.specs.Sound.{SoundBook}
-use Rattle.book.specs.OpeningLaws.{buy-most, sell-least}
-use Rattle.price.specs.Price.{chosen, noneValid}
+use Rattle.book.specs.BookLaws.{buy-most, sell-least}
+use Rattle.price.specs.Price.{noneValid}
 use Rattle.price.specs.PriceLaws.{NoneUsable, none-valid}
-use Rattle.entry.specs.Numbers.{oneOrTwo, from1to}
+use Rattle.entry.specs.Numbers.{entryNumbers, bulk, oneOrTwo, from1to}
 use Rattle.entry.specs.declared.Settings.{Settings}
-use Rattle.entry.specs.Settings.{seriesInRange, protectionsInRange, printsInRange, inRange, termsOf}
+use Rattle.entry.specs.Settings.{seriesInRange, protectionsInRange, printsInRange, inRange}
 use Rattle.entry.specs.Entry.{malformed}
 use Rattle.lanes.specs.declared.Lanes.{Lanes}
-use Rattle.lanes.specs.Ring.{tenants, bulk, entryAt, lenOf}
+use Rattle.lanes.specs.Ring.{entryAt, lenOf}
 use Rattle.lanes.specs.Rotation.{on, waits, distance, served}
 use Rattle.lanes.specs.Runs.{ahead}
 use Rattle.lanes.specs.RotationLaws.{ahead-less, served-lane, served-nobody}
 use Rattle.session.specs.Market.{Market, Called}
-use Rattle.session.specs.Settings.{resetOn, onGridOf, settingsOf, tooHigh, awayCases, awayRefusal, awayOf}
-use Rattle.session.specs.Submit.{wellCounted, someMalformed, submitCases, submitRefusal, submitOf}
+use Rattle.session.specs.Settings.{tooHigh, awayCases, awayRefusal, awayOf}
+use Rattle.lanes.specs.Bulk.{wellCounted, someMalformed}
+use Rattle.session.specs.Submit.{submitCases, submitRefusal, submitOf}
+use Rattle.session.specs.declared.TurnAnswer.{TurnAnswer}
 use Rattle.session.specs.declared.TurnAnswer.the-variants as turn-answer
-use Rattle.session.specs.Turn.{TurnDone, nobody, turnCases, turnRefusal, restTurn, tradeTurn, turnOf}
+use Rattle.session.specs.Turn.{TurnDone, nobody, turnCases, turnRefusal, turnOf}
 use Rattle.session.specs.declared.OpenAnswer.{OpenAnswer}
 use Rattle.session.specs.declared.OpenAnswer.the-variants as open-answer
-use Rattle.session.specs.Opening.{sourcesOf, choiceOf, openCases, openRefusal, openQuiet, openAt, openOf}
-use Rattle.demands.specs.InOrder.{Rule, NoneOf, GivenInOrder}
-use Rattle.demands.specs.InOrderLaws.{Reads, none-ruled, in-order}
-use Rattle.demands.specs.TurnCases.{OutcomeOf, cancels, no-such, turned-down, rests, trades, Outcome, refused, taken, outcome, kindOf, numberOf}
+use Rattle.session.specs.Open.{OpenDone, printed, sourcesOf, choiceOf, openCases, openRefusal, openQuiet, openAt, openOf}
+use Rattle.demands.specs.InOrder.{NoneOf, GivenInOrder}
+use Rattle.demands.specs.InOrderLaws.{Reads, none-ruled, number-in-order, Comes, by-none, by-number, comes-in-order}
+use Rattle.demands.specs.Runs.{turned, opened, isRefused}
+use Rattle.demands.specs.Outcomes as outcomes
+use Rattle.demands.specs.Outcomes.{SetCame, set-came, call-code, away-came, submit-came}
+use Rattle.demands.specs.TurnCases as turn-cases
+use Rattle.demands.specs.TurnCases.{lineOf, leaves}
+use Rattle.demands.specs.OpenCases as open-cases
 use Rattle.demands.specs.Demand2.{InList, awayRules, submitRules, turnRules, openRules, Crossing, RefusedInOrder}
 
 -- ---- tests and what they say
@@ -73,53 +81,19 @@ either {a} {b} p q = (
   ⊎-elim (λ x. or-left a b (p .1 x)) (λ y. or-right a b (q .1 y)),
 )
 
--- a call that is refused by a number above 0, and else answers 0
-refused-code : (r : ℕ) (a b : Called) → a .code ≡ r → b .code ≡ 0 → pick (ltb 0 r) a b .code ≡ r
-unfolding pick
-refused-code r a b e f = go (ltb 0 r) refl
-  where
-    go : (t : Bool) → ltb 0 r ≡ t → pick t a b .code ≡ r
-    go true h = e
-    go false h = f ∙ omega (arith, ltb-false 0 r h)
-
-code-says : {code r : ℕ} → code ≡ r → (n : ℕ) → (code ≡ n) ↔ (r ≡ n)
-code-says e n = (λ h. sym e ∙ h, λ h. e ∙ h)
-
--- an answer that is refused by n exactly where the first of the tests is n, other than 0
-refusal-in-order : (cs : List Case) (rs : List Rule) (gives : ℕ → Type 0) → apart 0 cs ≡ true → Reads cs rs
-    → ((n : ℕ) → gives n ↔ ((firstOf 0 cs ≡ n) × (0 < n))) → GivenInOrder rs gives ((n : ℕ) → gives n → ⊥)
-refusal-in-order cs rs gives a r told =
-    in-order 0 cs rs gives ((n : ℕ) → gives n → ⊥) a r
-    (λ n h. (λ x. told n .0 x .0, λ e. told n .1 (e, omega arith))) (
-      λ f. not-above (firstOf 0 cs) (λ h. f (firstOf 0 cs) (told (firstOf 0 cs) .1 (refl, h))),
-      λ e n x. omega (arith, told n .0 x),
-    )
-    (λ x. absurd (omega (arith, told 0 .0 x)))
-  where
-    not-above : (n : ℕ) → (0 < n → ⊥) → n ≡ 0
-    not-above n f = elim (order 0 n) [ less h ↦ absurd (f h) | equal h ↦ sym h | more h ↦ omega arith ]
-
 -- ---- away
-
-pub away-code : (m : Market) (bid offer : Cents) → awayOf m bid offer .code ≡ awayRefusal (m .session) bid offer
-unfolding awayOf
-away-code m bid offer = refused-code (awayRefusal (m .session) bid offer) _ _ refl refl
 
 away-in-order : (m : Market) (bid offer : Cents) → GivenInOrder (awayRules m bid offer) (λ n. awayOf m bid offer .code ≡ n) (awayOf m bid offer .code ≡ 0)
 unfolding awayRefusal tooHigh
 away-in-order m bid offer =
-    in-order 0 (awayCases (m .session) bid offer) (awayRules m bid offer) _ _ refl
-    ((refl, not-says _, (refl, either (less-says _ _) (less-says _ _), tt)))
-    (λ n _. code-says (away-code m bid offer) n) (code-says (away-code m bid offer) 0) (λ h. h)
+    number-in-order 0 (awayCases (m .session) bid offer) (awayRules m bid offer) refl
+    (refl, not-says _, (refl, either (less-says _ _) (less-says _ _), tt))
+    (call-code m _ _ (away-came m bid offer))
 
 -- ---- submit
 
-pub submit-code : (m : Market) (tenant count : ℕ) (ns : List ℕ) → submitOf m tenant count ns .code ≡ submitRefusal (m .session) tenant count ns
-unfolding submitOf
-submit-code m tenant count ns = refused-code (submitRefusal (m .session) tenant count ns) _ _ refl refl
-
 counted-says : (count : ℕ) (ns : List ℕ)
-    → (isNot (wellCounted count ns) ≡ true) ↔ ((1 ≤ count) × (count ≤ 20) × (length ns ≡ 6 * count) → ⊥)
+    → (isNot (wellCounted count ns) ≡ true) ↔ ((1 ≤ count) × (count ≤ bulk) × (length ns ≡ entryNumbers * count) → ⊥)
 unfolding wellCounted from1to
 counted-says count ns = (
   λ h p. holds-not-fails
@@ -143,9 +117,9 @@ submit-in-order : (m : Market) (tenant count : ℕ) (ns : List ℕ)
     → GivenInOrder (submitRules m tenant count ns) (λ n. submitOf m tenant count ns .code ≡ n) (submitOf m tenant count ns .code ≡ 0)
 unfolding submitRefusal
 submit-in-order m tenant count ns =
-    in-order 0 (submitCases (m .session) tenant count ns) (submitRules m tenant count ns) _ _ refl
+    number-in-order 0 (submitCases (m .session) tenant count ns) (submitRules m tenant count ns) refl
     (refl, not-says _, (refl, most-says _ _, (refl, counted-says count ns, (refl, malformed-says count ns, (refl, less-says _ _, tt)))))
-    (λ n _. code-says (submit-code m tenant count ns) n) (code-says (submit-code m tenant count ns) 0) (λ h. h)
+    (call-code m _ _ (submit-came m tenant count ns))
 
 -- ---- turn
 
@@ -163,26 +137,26 @@ module _ (busy : ℕ → Bool) (p : ℕ) where
   unfolding distance
   found-lane h = first-holds (λ k. busy (on p k)) tenants h
 
-nobody-says : (l : Lanes) → (nobody (served l) ≡ true) ↔ ((t : ℕ) → t < 9 → lenOf l t ≡ 0)
+nobody-says : (l : Lanes) → (nobody (served l) ≡ true) ↔ ((t : ℕ) → t < tenants → lenOf l t ≡ 0)
 unfolding served
 nobody-says l = (idle, quiet)
   where
     d : ℕ
     d = distance (waits l) (l .place)
 
-    empty-at : tenants ≤ d → (t : ℕ) → t < 9 → lenOf l t ≡ 0
+    empty-at : tenants ≤ d → (t : ℕ) → t < tenants → lenOf l t ≡ 0
     empty-at h t lane =
         let there = rw (lane-on (l .place) t lane) at (before-lane (waits l) (l .place) (ahead (l .place % tenants) t) (omega (arith, ahead-less (l .place % tenants) t))) in
         omega (arith, ltb-false 0 (lenOf l t) there)
 
-    idle : nobody (served l) ≡ true → (t : ℕ) → t < 9 → lenOf l t ≡ 0
+    idle : nobody (served l) ≡ true → (t : ℕ) → t < tenants → lenOf l t ≡ 0
     idle e = elim (order d tenants) [
       | less h ↦ absurd (holds-not-fails e (rw (served-lane (waits l) (l .place) h)))
       | equal h ↦ empty-at (omega arith)
       | more h ↦ empty-at (omega arith)
     ]
 
-    quiet : ((t : ℕ) → t < 9 → lenOf l t ≡ 0) → nobody (served l) ≡ true
+    quiet : ((t : ℕ) → t < tenants → lenOf l t ≡ 0) → nobody (served l) ≡ true
     quiet f = elim (order d tenants) [
       | less h ↦ absurd (holds-not-fails (found-lane (waits l) (l .place) h) (le-ltb 0 (lenOf l (on (l .place) d)) (omega (arith, f (on (l .place) d) (omega arith)))))
       | equal h ↦ rw (served-nobody (waits l) (l .place) (omega arith))
@@ -198,52 +172,31 @@ module _ (m : Market) (lent : ℕ) where
   turn-taken = none-ruled 0 (turnCases (m .session) lent) (turnRules m lent) refl turn-reads
 
 module _ (m : Market) (lent : ℕ) (was : List ℕ) where
-  -- a taken turn is not refused
-  pub not-refused : (t : ℕ) {d : TurnDone} → OutcomeOf m was t d → (n : ℕ) → d .answer ≡ turn-answer.Refused n → ⊥
-  unfolding kindOf restTurn tradeTurn
-  not-refused t (cancels c h) n x = omega (arith, ap kindOf x)
-  not-refused t (no-such c h) n x = omega (arith, ap kindOf x)
-  not-refused t (turned-down k c e h) n x = omega (arith, ap kindOf x)
-  not-refused t (rests j c o k) n x = omega (arith, ap kindOf x)
-  not-refused t (trades j b c o k e) n x = omega (arith, ap kindOf x)
+  turn-stands : {a : TurnAnswer} → isRefused (turned a) ≡ false → (n : ℕ) → a ≡ turn-answer.Refused n → ⊥
+  turn-stands h n x = holds-not-fails (ap (λ a. isRefused (turned a)) x) h
 
-  -- a turn is refused exactly by its refusal, where that is not 0
-  turn-refused : {d : TurnDone} → Outcome m lent was d → (n : ℕ)
-      → (d .answer ≡ turn-answer.Refused n) ↔ ((turnRefusal (m .session) lent ≡ n) × (0 < n))
-  unfolding numberOf
-  turn-refused (refused k e h) n = (λ x. (e ∙ ap numberOf x, omega (arith, ap numberOf x)), λ p. ap turn-answer.Refused (sym e ∙ p .0))
-  turn-refused (taken t s d) n = (λ x. absurd (not-refused t d n x), λ p. absurd (omega (arith, s .not-refused)))
+  turn-comes : {d : TurnDone} → turn-cases.Outcome m lent was d
+      → Comes (turnRefusal (m .session) lent) (λ n. d .answer ≡ turn-answer.Refused n) ((n : ℕ) → d .answer ≡ turn-answer.Refused n → ⊥)
+  turn-comes (turn-cases.refused h) = by-number h refl (λ k x. ap (λ a. lineOf a .code) x) (λ f. f _ refl)
+  turn-comes (turn-cases.taken t s o) = let never = turn-stands (leaves m was t o .not-refused) in by-none (s .not-refused) never never
 
   turn-in-order : GivenInOrder (turnRules m lent) (λ n. turnOf m lent was .answer ≡ turn-answer.Refused n)
       ((n : ℕ) → turnOf m lent was .answer ≡ turn-answer.Refused n → ⊥)
   unfolding turnRefusal
-  turn-in-order = refusal-in-order (turnCases (m .session) lent) (turnRules m lent) _ refl (turn-reads m lent) (turn-refused (outcome m lent was))
+  turn-in-order = comes-in-order (turnCases (m .session) lent) (turnRules m lent) refl (turn-reads m lent) (turn-comes (turn-cases.outcome m lent was))
 
 -- ---- open
 
--- whether an open is refused, and by which number
-unfoldable pub open-kind : OpenAnswer → ℕ
-open-kind (open-answer.Refused n) = 0
-open-kind (open-answer.AtPrice p v k) = 1
-
-open-number : OpenAnswer → ℕ
-open-number (open-answer.Refused n) = n
-open-number (open-answer.AtPrice p v k) = 0
-
 module _ (m : Market) (lent : ℕ) (was : List ℕ) where
-  abbrev r : ℕ
-  r = openRefusal m lent
+  open-stands : {a : OpenAnswer} → isRefused (opened a) ≡ false → (n : ℕ) → a ≡ open-answer.Refused n → ⊥
+  open-stands h n x = holds-not-fails (ap (λ a. isRefused (opened a)) x) h
 
-  open-refused : (n : ℕ) → (openOf m lent was .answer ≡ open-answer.Refused n) ↔ ((r ≡ n) × (0 < n))
-  unfolding openOf pick open-kind open-number openAt openQuiet
-  open-refused n = go (ltb 0 r) (crosses (m .book)) refl
-    where
-      go : (b c : Bool) → ltb 0 r ≡ b
-          → (pick b (record { market = m; answer = open-answer.Refused r; records = was })
-          (pick c (openAt m was (chosen (choiceOf (m .session)))) (openQuiet m was)) .answer ≡ open-answer.Refused n) ↔ ((r ≡ n) × (0 < n))
-      go true c h = (λ x. (ap open-number x, omega (arith, ap open-number x, ltb-true 0 r h)), λ p. ap open-answer.Refused (p .0))
-      go false true h = (λ x. absurd (omega (arith, ap open-kind x)), λ p. absurd (omega (arith, ltb-false 0 r h)))
-      go false false h = (λ x. absurd (omega (arith, ap open-kind x)), λ p. absurd (omega (arith, ltb-false 0 r h)))
+  open-comes : {d : OpenDone} → open-cases.Outcome m lent was d
+      → Comes (openRefusal m lent) (λ n. d .answer ≡ open-answer.Refused n) ((n : ℕ) → d .answer ≡ open-answer.Refused n → ⊥)
+  unfolding openAt openQuiet
+  open-comes (open-cases.refused h) = by-number h refl (λ k x. ap (λ a. printed a .code) x) (λ f. f _ refl)
+  open-comes (open-cases.quiet e c) = by-none e (open-stands refl) (open-stands refl)
+  open-comes (open-cases.opens p e c f) = by-none e (open-stands refl) (open-stands refl)
 
   no-price-says : (crosses (m .book) and noneValid (choiceOf (m .session)) ≡ true) ↔ ((crosses (m .book) ≡ true) × NoneUsable (sourcesOf (m .session)))
   unfolding choiceOf
@@ -257,11 +210,7 @@ module _ (m : Market) (lent : ℕ) (was : List ℕ) where
   open-in-order : GivenInOrder (openRules m lent) (λ n. openOf m lent was .answer ≡ open-answer.Refused n)
       ((n : ℕ) → openOf m lent was .answer ≡ open-answer.Refused n → ⊥)
   unfolding openRefusal
-  open-in-order = refusal-in-order (openCases m lent) (openRules m lent) _ refl open-reads open-refused
-
-  pub open-taken : (openRefusal m lent ≡ 0) ↔ NoneOf (openRules m lent)
-  unfolding openRefusal
-  open-taken = none-ruled 0 (openCases m lent) (openRules m lent) refl open-reads
+  open-in-order = comes-in-order (openCases m lent) (openRules m lent) refl open-reads (open-comes (open-cases.outcome m lent was))
 
 -- ---- settings
 
@@ -311,31 +260,31 @@ module _ (s : Settings) where
       (and-holds _ _ (le-leb _ _ (l .print)) (le-leb _ _ (l .close)))
 
   -- settings are accepted with all values in the list, or refused by 7 with one outside
+  no-grid : (n : ℕ) → (n ≡ 1 → ⊥) → (n ≡ 2 → ⊥) → (n ≡ 3 → ⊥) → 1 ≤ n → n ≤ 3 → ⊥
+  no-grid n x y z low high = omega arith
+
   data Answer (code : ℕ) : Type 0 where
     within-list : code ≡ 0 → InList s → Answer code
     outside : code ≡ 7 → (InList s → ⊥) → Answer code
 
-  in-range : (m : Market) (g : Grid) → 1 ≤ s .grid → s .grid ≤ 3 → Answer (onGridOf m s (One g) .code)
-  unfolding pick
-  in-range m g low high = go (inRange s) refl
+  -- a number from 1 to 3 is that of a grid
+  grid-says : (n : ℕ) → ((g : Grid) × (gridOf n ≡ One g)) ↔ ((1 ≤ n) × (n ≤ 3))
+  grid-says n = go (eqb n 1) (eqb n 2) (eqb n 3) refl refl refl
     where
-      go : (b : Bool) → inRange s ≡ b → Answer (pick {A = Called} b (record { market = resetOn m (termsOf s g); code = 0 }) (record { market = m; code = 7 }) .code)
-      go true h = within-list refl (in-list h low high)
-      go false h = outside refl (λ l. holds-not-fails (list-in l) h)
+      some : Chosen → ℕ
+      some (One g) = 1
+      some NoSuch = 0
 
-  no-grid : (n : ℕ) → (n ≡ 1 → ⊥) → (n ≡ 2 → ⊥) → (n ≡ 3 → ⊥) → 1 ≤ n → n ≤ 3 → ⊥
-  no-grid n x y z low high = omega arith
+      go : (a b c : Bool) → eqb n 1 ≡ a → eqb n 2 ≡ b → eqb n 3 ≡ c
+          → ((g : Grid) × (cond a (One (stepping 1 1)) (cond b (One (stepping 1 5)) (cond c (One (stepping 5 10)) NoSuch)) ≡ One g)) ↔ ((1 ≤ n) × (n ≤ 3))
+      go true b c x y z = (λ _. (omega (arith, eqb-true n 1 x), omega (arith, eqb-true n 1 x)), λ _. (stepping 1 1, refl))
+      go false true c x y z = (λ _. (omega (arith, eqb-true n 2 y), omega (arith, eqb-true n 2 y)), λ _. (stepping 1 5, refl))
+      go false false true x y z = (λ _. (omega (arith, eqb-true n 3 z), omega (arith, eqb-true n 3 z)), λ _. (stepping 5 10, refl))
+      go false false false x y z = (λ (g, e). absurd (omega (arith, ap some e)), λ (low, high). absurd (no-grid n (eqb-false n 1 x) (eqb-false n 2 y) (eqb-false n 3 z) low high))
 
-  settings-answer : (m : Market) → Answer (settingsOf m s .code)
-  unfolding settingsOf
-  settings-answer m = go (eqb (s .grid) 1) (eqb (s .grid) 2) (eqb (s .grid) 3) refl refl refl
-    where
-      go : (a b c : Bool) → eqb (s .grid) 1 ≡ a → eqb (s .grid) 2 ≡ b → eqb (s .grid) 3 ≡ c
-          → Answer (onGridOf m s (cond a (One (stepping 1 1)) (cond b (One (stepping 1 5)) (cond c (One (stepping 5 10)) NoSuch))) .code)
-      go true b c x y z = let n = eqb-true (s .grid) 1 x in in-range m (stepping 1 1) (omega arith) (omega arith)
-      go false true c x y z = let n = eqb-true (s .grid) 2 y in in-range m (stepping 1 5) (omega arith) (omega arith)
-      go false false true x y z = let n = eqb-true (s .grid) 3 z in in-range m (stepping 5 10) (omega arith) (omega arith)
-      go false false false x y z = outside refl (λ l. no-grid (s .grid) (eqb-false (s .grid) 1 x) (eqb-false (s .grid) 2 y) (eqb-false (s .grid) 3 z) (l .grid-least) (l .grid-most))
+  settings-answer : {m : Market} {d : Called} → SetCame m s d → Answer (d .code)
+  settings-answer (outcomes.refused none) = outside refl (λ l. let (g, e) = grid-says (s .grid) .1 (l .grid-least, l .grid-most) in none g e (list-in l))
+  settings-answer (outcomes.accepted g e h) = let (low, high) = grid-says (s .grid) .0 (g, e) in within-list refl (in-list h low high)
 
   answer-refused : {code : ℕ} → Answer code → (code ≡ 7) ↔ (InList s → ⊥)
   answer-refused (within-list e l) = (λ h. absurd (omega arith), λ f. absurd (f l))
@@ -374,7 +323,7 @@ module _ (b : Book) (next : ℕ) (sound : SoundBook b next) where
   bid-most : bestBid b ≤ highest
   unfolding highestBuy
   bid-most = greatest-most (λ i. buyPrice (sideAt b i) (priceAt b i) (sizeAt b i)) (b .places) highest λ i p. elim (order 0 (buyPrice (sideAt b i) (priceAt b i) (sizeAt b i))) [
-    | less h ↦ (let (_, x, is) = buy-found _ _ _ h in omega (arith, is, sound .row i (omega (arith, sound .places)) x .price-most))
+    | less h ↦ (let (_, x, is) = buy-found _ _ _ h in omega (arith, is, row-of sound i p x .price-most))
     | equal h ↦ omega arith
     | more h ↦ omega arith
   ]
@@ -384,7 +333,7 @@ module _ (b : Book) (next : ℕ) (sound : SoundBook b next) where
   crossing-found h =
       let (j, q, sells) = least-found noPrice (λ i. sellPrice (sideAt b i) (priceAt b i) (sizeAt b i)) (b .places) (omega (arith, bid-most)) in
       let (side-j, rests-j, price-j) = sell-found (sideAt b j) (priceAt b j) (sizeAt b j) (omega (arith, bid-most)) in
-      let priced = sound .row j (omega (arith, sound .places)) rests-j .price-least in
+      let priced = row-of sound j q rests-j .price-least in
       let (i, p, buys) = greatest-found (λ i. buyPrice (sideAt b i) (priceAt b i) (sizeAt b i)) (b .places) (omega arith) in
       let (side-i, rests-i, price-i) = buy-found (sideAt b i) (priceAt b i) (sizeAt b i) (omega arith) in
       record {
@@ -414,9 +363,9 @@ module _ (b : Book) (next : ℕ) (sound : SoundBook b next) where
 -- Demand 2: each refusal is given exactly in its case.
 pub refused-in-order : RefusedInOrder
 refused-in-order = record {
-  settings-refused = λ m s. answer-refused s (settings-answer s m);
-  settings-accepted = λ m s. answer-accepted s (settings-answer s m);
-  settings-only = λ m s. answer-only s (settings-answer s m);
+  settings-refused = λ m s. answer-refused s (settings-answer s (set-came m s));
+  settings-accepted = λ m s. answer-accepted s (settings-answer s (set-came m s));
+  settings-only = λ m s. answer-only s (settings-answer s (set-came m s));
   away = away-in-order;
   submit = submit-in-order;
   turn = turn-in-order;

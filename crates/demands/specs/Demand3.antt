@@ -8,9 +8,9 @@ use mathlib.Core.Path.{_≡_}
 use mathlib.Core.Bool.{true, false}
 use mathlib.Core.List.{List, [], _∷_}
 use Prim.Native.Nat.{ℕ, _+_, _/_, _≤_, _<_}
+use Rattle.units.specs.Units.{tenants}
 use Rattle.lanes.specs.declared.Served.{Served}
 use Rattle.lanes.specs.declared.Served.the-variants.{Lane, Nobody}
-use Rattle.lanes.specs.Ring.{tenants}
 use Rattle.lanes.specs.Rotation.{waits}
 use Rattle.lanes.specs.Runs.{countsFor}
 use Rattle.session.specs.Market.{Market}

@@ -1,6 +1,6 @@
 -- Demand 3: each call moves the rotation as a run of turns has it or leaves it, so that the rotation's fairness is that
 -- of the calls.
-use mathlib.Core.Path.{_≡_, refl, sym, ap, _∙_, subst}
+use mathlib.Core.Path.{_≡_, refl}
 use mathlib.Core.Bool.{Bool, true, false, true≢false}
 use mathlib.Core.List.{List, [], _∷_}
 use Prim.Native.Nat.{ℕ, _+_}
@@ -15,12 +15,15 @@ use Rattle.lanes.specs.Rotation.{on, waits, served}
 use Rattle.lanes.specs.Runs.{countsFor, turns, Always}
 use Rattle.lanes.specs.Fairness.{fair, share}
 use Rattle.session.specs.Market.{Market, Called}
-use Rattle.session.specs.Turn.{TurnDone, nobody, turnOf}
-use Rattle.session.specs.Opening.{OpenDone, openQuiet, openAt, openOf}
+use Rattle.session.specs.Turn.{TurnDone, nobody}
+use Rattle.session.specs.Open.{OpenDone, openQuiet, openAt}
 use Rattle.demands.specs.Runs.{Call, settings, away, submit, turn, opening, coded, turned, step, answers, laneIn, resets}
 use Rattle.demands.specs.Outcomes as outcomes
-use Rattle.demands.specs.Outcomes.{SetCame, CallCame, TurnCame, OpenCame, set-came, away-came, submit-came, turn-came, open-came}
-use Rattle.demands.specs.Shape.{reached-shaped, leaves}
+use Rattle.demands.specs.Outcomes.{SetCame, CallCame, set-came, away-came, submit-came}
+use Rattle.demands.specs.TurnCases as turn-cases
+use Rattle.demands.specs.TurnCases.{leaves}
+use Rattle.demands.specs.OpenCases as open-cases
+use Rattle.demands.specs.Shape.{reached-shaped}
 use Rattle.demands.specs.Demand3.{takes, turnsTaken, turnsOf, NoReset, WaitsBeforeEach, Demand3}
 
 -- lanes before and after a call: a taken turn is that of the lane served and moves the place past it, anything else
@@ -29,35 +32,36 @@ abbrev Moves : Lanes → Lanes → Served → Type 0
 Moves l next (Lane t) = (served l ≡ Lane t) × (next .place ≡ on t 1)
 Moves l next Nobody = next .place ≡ l .place
 
-set-moves : (m : Market) (given : Settings) (d : Called) → resets (settings given) (coded (d .code)) ≡ false → SetCame m given d
+set-moves : (m : Market) (given : Settings) {d : Called} → resets (settings given) (coded (d .code)) ≡ false → SetCame m given d
     → d .market .session .lanes .place ≡ m .session .lanes .place
-set-moves m given d r (outcomes.refused e) = ap (λ (x : Called). x .market .session .lanes .place) e
-set-moves m given d r (outcomes.accepted g e) = absurd (true≢false (subst (λ (x : Called). resets (settings given) (coded (x .code)) ≡ false) e r))
+set-moves m given r (outcomes.refused none) = refl
+set-moves m given r (outcomes.accepted g e h) = absurd (true≢false r)
 
-call-moves : (m next : Market) (d : Called) → next .session .lanes .place ≡ m .session .lanes .place → CallCame m next d
+call-moves : (m next : Market) (n : ℕ) {d : Called} → next .session .lanes .place ≡ m .session .lanes .place → CallCame m next n d
     → d .market .session .lanes .place ≡ m .session .lanes .place
-call-moves m next d s (outcomes.refused n h e) = ap (λ (x : Called). x .market .session .lanes .place) e
-call-moves m next d s (outcomes.accepted e) = ap (λ (x : Called). x .market .session .lanes .place) e ∙ s
+call-moves m next n s (outcomes.refused h) = refl
+call-moves m next n s (outcomes.accepted e) = s
 
-turn-moves : (m : Market) (was : List ℕ) (d : TurnDone) → TurnCame m was d → Moves (m .session .lanes) (d .market .session .lanes) (laneIn (turned (d .answer)))
+turn-moves : (m : Market) (lent : ℕ) (was : List ℕ) {d : TurnDone} → turn-cases.Outcome m lent was d
+    → Moves (m .session .lanes) (d .market .session .lanes) (laneIn (turned (d .answer)))
 unfolding taken
-turn-moves m was d (outcomes.refused n e) = subst (λ (x : TurnDone). Moves (m .session .lanes) (x .market .session .lanes) (laneIn (turned (x .answer)))) (sym e) refl
-turn-moves m was d (outcomes.took t set is came) = let left = leaves m t was d came in rw (left .names, left .lanes) (is, refl)
+turn-moves m lent was (turn-cases.refused h) = refl
+turn-moves m lent was (turn-cases.taken t s o) = let left = leaves m was t o in rw (left .names, left .lanes) (s .lane, refl)
 
-open-moves : (m : Market) (was : List ℕ) (d : OpenDone) → OpenCame m was d → d .market .session .lanes .place ≡ m .session .lanes .place
+open-moves : (m : Market) (lent : ℕ) (was : List ℕ) {d : OpenDone} → open-cases.Outcome m lent was d → d .market .session .lanes .place ≡ m .session .lanes .place
 unfolding openAt openQuiet
-open-moves m was d (outcomes.refused n e) = ap (λ (x : OpenDone). x .market .session .lanes .place) e
-open-moves m was d (outcomes.matched p set e) = ap (λ (x : OpenDone). x .market .session .lanes .place) e
-open-moves m was d (outcomes.quiet set e) = ap (λ (x : OpenDone). x .market .session .lanes .place) e
+open-moves m lent was (open-cases.refused h) = refl
+open-moves m lent was (open-cases.quiet e c) = refl
+open-moves m lent was (open-cases.opens p e c f) = refl
 
 step-moves : (m : Market) (c : Call) → resets c (step m c .answer) ≡ false
     → Moves (m .session .lanes) (step m c .market .session .lanes) (laneIn (step m c .answer))
 unfolding joined
-step-moves m (settings given) r = set-moves m given _ r (set-came m given)
+step-moves m (settings given) r = set-moves m given r (set-came m given)
 step-moves m (away bid offer) r = call-moves m _ _ refl (away-came m bid offer)
 step-moves m (submit tenant count ns) r = call-moves m _ _ refl (submit-came m tenant count ns)
-step-moves m (turn lent was) r = turn-moves m was (turnOf m lent was) (turn-came m lent was)
-step-moves m (opening lent was) r = open-moves m was (openOf m lent was) (open-came m lent was)
+step-moves m (turn lent was) r = turn-moves m lent was (turn-cases.outcome m lent was)
+step-moves m (opening lent was) r = open-moves m lent was (open-cases.outcome m lent was)
 
 -- who waits before each taken turn
 abbrev withTurn : Served → (ℕ → Bool) → List (ℕ → Bool) → List (ℕ → Bool)

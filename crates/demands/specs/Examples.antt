@@ -14,12 +14,12 @@ use Rattle.units.specs.Leasts.{leastTo, greatestTo}
 use Rattle.units.specs.Places.{table}
 use Rattle.numeral.specs.Examples.{E12, e12 as numbers-read}
 use Rattle.rows.specs.Rows.{keyOf, within, openSize, buyPrice, sellPrice, restsFor}
-use Rattle.rows.specs.Passes.{highestBuy, lowestSell, standing, restingRows}
+use Rattle.rows.specs.Passes.{highestBuy, lowestSell, restingWithin, restingRows}
 use Rattle.book.specs.Book.{Book, bestOffer, crosses}
 use Rattle.book.specs.Allocation.{classOf, before, level, earlier, ahead, rank, left, whole, leftover, extra, fill}
-use Rattle.book.specs.Records.{soonerThan, pos, ofTraded, records, recorded, fieldOf, written}
+use Rattle.book.specs.Records.{sortKey, soonerThan, pos, ofTraded, records, recorded, fieldOf, written}
 use Rattle.book.specs.Trading.{filled, traded, afterTrade, tradeRecords, tradeWritten}
-use Rattle.book.specs.Opening.{sortKey, volume, bought, sold, matched, afterFills, buyGoes, sellGoes, afterOpening, openingRecords, openingWritten}
+use Rattle.opening.specs.Opening.{volume, bought, sold, matched, afterFills, buyGoes, sellGoes, afterOpening, openingRecords, openingWritten}
 use Rattle.entry.specs.Quotes.{lowerOffer, quotesOf}
 use Rattle.checks.specs.TurnDown.{notYet, offGrid, atStrike, noOffer, unbid, noBid, converts, asJudged, tooWide, farBuy, farSell, farPrice, mightRest, noRoom, usedUp, turnDown}
 use Rattle.judge.specs.Bound.{buyBound, boundOf}
@@ -34,8 +34,9 @@ use Rattle.price.specs.Examples.{E6, e6 as prices-chosen}
 use Rattle.session.specs.declared.TurnAnswer.the-variants as turn-answer
 use Rattle.session.specs.declared.OpenAnswer.the-variants as open-answer
 use Rattle.session.specs.Market.{Market}
-use Rattle.session.specs.Turn.{quotesIn, turnRefusal, afterTaking, filledOf, dispositionIn, bookAfter, tradeTurn, orderTurn, entryTurn, turnOf}
-use Rattle.session.specs.Opening.{choiceOf, openRefusal, openAt, openOf}
+use Rattle.dealing.specs.Deal.{quotesOn, filledOf, dispositionIn, bookAfter, trades, ordered, dealt}
+use Rattle.session.specs.Turn.{turnRefusal, afterTaking, turnOf}
+use Rattle.session.specs.Open.{choiceOf, openRefusal, openAt, openOf}
 use Rattle.demands.specs.Markets.{terms, awayQuote, sessionOn}
 
 -- offers at one price, of the sizes given, numbered from 1
@@ -131,12 +132,12 @@ pub record Examples : Type 0 where
 
 pub examples : Examples
 unfolding sumTo same lower precedes firstTo leastTo greatestTo table keyOf within openSize buyPrice sellPrice restsFor highestBuy lowestSell
-    standing restingRows bestOffer crosses classOf before level earlier ahead rank left whole leftover extra fill soonerThan pos ofTraded
+    restingWithin restingRows bestOffer crosses classOf before level earlier ahead rank left whole leftover extra fill soonerThan pos ofTraded
     records recorded fieldOf written filled traded afterTrade tradeRecords tradeWritten sortKey volume bought sold matched afterFills
     buyGoes sellGoes afterOpening openingRecords openingWritten lowerOffer quotesOf notYet offGrid atStrike noOffer unbid noBid converts
     asJudged tooWide farBuy farSell farPrice mightRest noRoom usedUp turnDown buyBound boundOf beyondDrill atAway dispositionOf verdict
-    entryAt slot waitingAt distance servedBy served valid midpoint usable firstValid priceOf quotesIn turnRefusal afterTaking filledOf
-    dispositionIn bookAfter tradeTurn orderTurn entryTurn turnOf choiceOf openRefusal openAt openOf _and_ _or_ isNot pick lowerIf
+    entryAt slot waitingAt distance servedBy served valid midpoint usable firstValid priceOf quotesOn turnRefusal afterTaking filledOf
+    dispositionIn bookAfter trades ordered dealt turnOf choiceOf openRefusal openAt openOf _and_ _or_ isNot pick lowerIf
 examples = record {
   e1 = refl;
   e2 = refl;

@@ -11,7 +11,7 @@ use lib.ListN.{length, take}
 use borrow.Author.Tests.{eqb-false, not-true}
 use Rattle.units.specs.Tests.{isNot, pick, and-true, and-holds, not-holds, not-fails, fails, holds-not-fails}
 use Rattle.units.specs.Cases.{Case, firstOf}
-use Rattle.units.specs.CaseLaws.{caseAt, none, foreign, apart, given, given-none}
+use Rattle.units.specs.CaseLaws.{caseAt, none, foreign, apart, given, given-none, none-at}
 use Rattle.demands.specs.InOrder.{Rule, ruleAt, NoneOf, ruled, GivenInOrder}
 
 -- the tests are those of the rules, one by one: the same numbers, and each test holds exactly in its rule's case
@@ -66,6 +66,10 @@ none-ruled d cs rs a r =
     let by = given-none d cs a in
     (λ e. all .0 (by .0 e), λ p. by .1 (all .1 p))
 
+-- where no number is given, the test of each place fails
+pub fails-at : (d : ℕ) (cs : List Case) → apart d cs ≡ true → firstOf d cs ≡ d → (i : ℕ) → caseAt cs i .test ≡ false
+fails-at d cs a e i = none-at cs i (given-none d cs a .0 e)
+
 -- what is given is the number of some place, or d
 data Found (d : ℕ) (cs : List Case) : Type 0 where
   nowhere : firstOf d cs ≡ d → Found d cs
@@ -116,9 +120,27 @@ module _ (d : ℕ) (cs : List Case) (rs : List Rule) (gives : ℕ → Type 0) (o
     ]
   ]
 
-  pub in-order : GivenInOrder rs gives otherwise
+  in-order : GivenInOrder rs gives otherwise
   in-order = record {
     each = each-given;
     none = (let by = none-ruled d cs rs a r in (λ x. by .0 (o .0 x), λ p. o .1 (by .1 p)));
     only = only-given;
   }
+
+-- a number that is the first of the tests
+pub number-in-order : (d : ℕ) (cs : List Case) (rs : List Rule) → apart d cs ≡ true → Reads cs rs → {code : ℕ} → code ≡ firstOf d cs
+    → GivenInOrder rs (λ n. code ≡ n) (code ≡ d)
+number-in-order d cs rs a r e = in-order d cs rs _ _ a r (λ n _. (λ x. sym e ∙ x, λ y. e ∙ y)) (λ x. sym e ∙ x, λ y. e ∙ y) (λ x. x)
+
+-- what an answer comes to by its number n, which is 0 where no test holds: no number is given and it is otherwise, or n
+-- is given and no other
+pub data Comes (n : ℕ) (gives : ℕ → Type 0) (otherwise : Type 0) : Type 0 where
+  by-none : n ≡ 0 → otherwise → ((k : ℕ) → gives k → ⊥) → Comes n gives otherwise
+  by-number : 0 < n → gives n → ((k : ℕ) → gives k → n ≡ k) → (otherwise → ⊥) → Comes n gives otherwise
+
+pub comes-in-order : (cs : List Case) (rs : List Rule) → apart 0 cs ≡ true → Reads cs rs → {gives : ℕ → Type 0} {otherwise : Type 0} → Comes (firstOf 0 cs) gives otherwise
+    → GivenInOrder rs gives otherwise
+comes-in-order cs rs a r (by-none e x never) =
+    in-order 0 cs rs _ _ a r (λ k z. (λ y. absurd (never k y), λ f. absurd (z (sym f ∙ e)))) (λ _. e, λ _. x) (λ y. absurd (never 0 y))
+comes-in-order cs rs a r {gives} (by-number h y one not) =
+    in-order 0 cs rs _ _ a r (λ k z. (one k, λ f. subst gives f y)) (λ x. absurd (not x), λ e. absurd (omega arith)) (λ w. absurd (omega (arith, one 0 w)))

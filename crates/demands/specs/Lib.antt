@@ -4,7 +4,12 @@ pub mod Examples
 pub mod Worked
 pub mod Runs
 pub mod RunLaws
+pub mod InOrder
+pub mod InOrderLaws
+pub mod Demand2
 pub mod Outcomes
+pub mod TurnCases
+pub mod OpenCases
 pub mod Shape
 pub mod Accepted
 pub mod Soundness
@@ -17,10 +22,6 @@ pub mod Tallies
 pub mod Told
 pub mod TalliesProof
 pub mod Instances
-pub mod InOrder
-pub mod InOrderLaws
-pub mod Demand2
-pub mod TurnCases
 pub mod Demand2Refusals
 pub mod Demand2Stores
 pub mod Demand2Turn

@@ -3,13 +3,12 @@ use mathlib.Core.Bool.{Bool, true, false}
 use mathlib.Core.List.{_∷_}
 use Prim.Native.Nat.{ℕ}
 use lib.ListN.{replicate}
-use Rattle.units.specs.Units.{cents}
+use Rattle.units.specs.Units.{tenants, cents}
 use Rattle.units.specs.Grid.{stepping}
 use Rattle.tally.specs.Tallies.{noTallies}
 use Rattle.entry.specs.declared.Away.{Away}
 use Rattle.entry.specs.declared.Settings.{Settings}
 use Rattle.entry.specs.declared.Terms.{Terms}
-use Rattle.lanes.specs.Ring.{tenants}
 use Rattle.session.specs.declared.Session.{Session}
 
 -- the settings of the worked example: time class, grid 1, call, strike 10000, D 10, F 20, x 10, least 25, greatest 500,

@@ -20,7 +20,7 @@ use Rattle.session.specs.Market.{Market, Called}
 use Rattle.session.specs.Settings.{newSession, settingsOf, awayOf}
 use Rattle.session.specs.Submit.{submitOf}
 use Rattle.session.specs.Turn.{TurnDone, turnOf}
-use Rattle.session.specs.Opening.{OpenDone, openOf}
+use Rattle.session.specs.Open.{OpenDone, openOf}
 
 -- Calls: settings, away, submit, turn, open, with any numbers.
 pub data Call : Type 0 where

@@ -4,10 +4,10 @@ use mathlib.Core.Bool.{true≢false}
 use Rattle.session.specs.declared.Session.{Session}
 use Rattle.session.specs.Market.{Market}
 use Rattle.session.specs.Sound.{Sound}
-use Rattle.session.specs.SettingsSound.{settings-sound, away-sound}
-use Rattle.session.specs.SubmitSound.{submit-sound}
-use Rattle.session.specs.TurnSound.{turn-sound}
-use Rattle.session.specs.OpenSound.{open-sound}
+use Rattle.session.specs.SettingsSoundLaws.{settings-sound, away-sound}
+use Rattle.session.specs.SubmitSoundLaws.{submit-sound}
+use Rattle.session.specs.TurnSoundLaws.{turn-sound}
+use Rattle.session.specs.OpenSoundLaws.{open-sound}
 use Rattle.demands.specs.Runs.{Call, settings, away, submit, turn, opening, step, Start, Reached}
 use Rattle.demands.specs.RunLaws.{reached-has}
 use Rattle.demands.specs.Shape.{Shaped, step-shaped, start-shaped}

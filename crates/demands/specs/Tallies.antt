@@ -5,12 +5,12 @@ use mathlib.Core.Path.{_≡_}
 use mathlib.Core.List.{List, [], _∷_}
 use Prim.Native.Nat.{ℕ, _+_, _<_}
 use lib.Dec.{leb, ltb}
+use Rattle.units.specs.Units.{tenants}
 use Rattle.units.specs.Tests.{pick}
 use Rattle.units.specs.Sums.{sumTo}
 use Rattle.units.specs.Picked.{keep, same}
 use Rattle.book.specs.RecordSums.{tenantIn, quantityIn}
 use Rattle.entry.specs.Entry.{isBuy}
-use Rattle.lanes.specs.Ring.{tenants}
 use Rattle.lanes.specs.Runs.{countsFor}
 use Rattle.tally.specs.Tallies.{tallyAt, onlyFor, boughtInAll, soldInAll}
 use Rattle.session.specs.declared.TurnAnswer.the-variants as turn-answer

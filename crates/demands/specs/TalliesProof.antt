@@ -1,22 +1,21 @@
 -- The tallies as sums: each call adds to each tenant's tally what its answer and its records say, and as much bought as
 -- sold.
-use mathlib.Core.Path.{_≡_, refl, sym, ap, ap₂, _∙_, subst}
+use mathlib.Core.Path.{_≡_, refl, sym, ap, ap₂, _∙_}
 use mathlib.Core.Bool.{Bool, true, false, true≢false, false≢true}
 use mathlib.Core.List.{List, [], _∷_}
 use Prim.Native.Nat.{ℕ, _+_, _<_}
 use native.Mathlib.Decide.{ℕ-discrete}
 use native.Mathlib.Nat.{add-zero, zero-add}
-use native.Mathlib.Omega.{arith}
 use lib.ListN.{length, getD-replicate}
 use borrow.Author.Tests.{eq-eqb, ne-eqb}
-use Rattle.units.specs.declared.Cents.{Cents}
+use Rattle.units.specs.Units.{tenants}
 use Rattle.units.specs.Tests.{pick, picked-of-both}
 use Rattle.units.specs.Sums.{sumTo, sum-zero, sum-same, sum-add, sum-none}
 use Rattle.book.specs.Book.{Book}
 use Rattle.book.specs.Sound.{SoundBook}
 use Rattle.book.specs.RecordSums.{quantityIn}
 use Rattle.book.specs.Trading.{ofTenant, filled, traded, tradeRecords, tradeWritten}
-use Rattle.book.specs.Opening.{bought, sold}
+use Rattle.opening.specs.Opening.{bought, sold}
 use Rattle.entry.specs.declared.Entry.{Entry}
 use Rattle.entry.specs.declared.Quotes.{Quotes}
 use Rattle.entry.specs.declared.Settings.{Settings}
@@ -24,26 +23,23 @@ use Rattle.entry.specs.declared.Terms.{Terms}
 use Rattle.entry.specs.Entry.{isBuy}
 use Rattle.checks.specs.TurnDown.{converts, asJudged}
 use Rattle.lanes.specs.declared.Served.the-variants.{Lane}
-use Rattle.lanes.specs.Ring.{tenants}
-use Rattle.lanes.specs.Rotation.{waits, served}
 use Rattle.lanes.specs.Runs.{countsFor}
-use Rattle.lanes.specs.RotationLaws.{served-first}
 use Rattle.tally.specs.declared.Tally.{Tally}
 use Rattle.tally.specs.Tallies as tallies
 use Rattle.tally.specs.Tallies.{plus, tallyAt, noTallies, added, onlyFor, counted, boughtInAll, soldInAll}
-use Rattle.tally.specs.TallyLaws.{added-length, added-at, plus-same, plus-none, plus-twice}
+use Rattle.tally.specs.TallyLaws.{added-length, added-at, plus-same, plus-none, plus-twice, only-none, only-sum}
 use Rattle.session.specs.declared.Session.{Session}
 use Rattle.session.specs.Market.{Market, Called}
-use Rattle.session.specs.CreditLaws.{only-none, only-sum}
-use Rattle.session.specs.Settings.{settingsOf, awayOf}
-use Rattle.session.specs.Submit.{submitOf}
-use Rattle.session.specs.Opposite.{opposite}
-use Rattle.session.specs.Settle.{restingShare, talliesAfter}
-use Rattle.session.specs.Turn.{TurnDone, afterTaking, filledOf, restTurn, tradeTurn, turnOf}
-use Rattle.session.specs.Opening.{OpenDone, openQuiet, openAt, openOf}
+use Rattle.dealing.specs.Settle.{opposite, restingShare, talliesAfter}
+use Rattle.session.specs.Turn.{TurnDone, quotesIn}
+use Rattle.session.specs.Open.{OpenDone, openQuiet, openAt}
 use Rattle.demands.specs.Runs.{Call, Answer, settings, away, submit, turn, opening, coded, turned, opened, step, after, laneIn, headEntry, resets, Start, Reached}
 use Rattle.demands.specs.Outcomes as outcomes
-use Rattle.demands.specs.Outcomes.{SetCame, CallCame, TakenCame, set-came, away-came, submit-came, turn-came, open-came}
+use Rattle.demands.specs.Outcomes.{SetCame, CallCame, set-came, away-came, submit-came}
+use Rattle.demands.specs.TurnCases as turn-cases
+use Rattle.demands.specs.TurnCases.{turnCounted, restDone, OutcomeOf, of-cancel, of-order, cancels, no-such, turned-down, rests, trades}
+use Rattle.demands.specs.OpenCases as open-cases
+use Rattle.demands.specs.Demand2.{judged, boundIn}
 use Rattle.demands.specs.RunLaws.{reached-has}
 use Rattle.demands.specs.SoundnessProof.{Stands, start-stands, step-stands, reached-stands}
 use Rattle.demands.specs.Tallies.{inRecords, boughtIn, soldIn, turnsBy, boughtBy, soldBy, sumSince, Tallies}
@@ -74,7 +70,7 @@ taken-adds xs t long u h =
     added-at (onlyFor t 1) (onlyFor t 0) (onlyFor t 0) xs u (rw long h) ∙ plus-same (tallyAt xs u) (counts-is t u) (only-none t u) (only-none t u)
 
 -- an order that trades, on market m
-module _ (m : Market) (t : ℕ) (was : List ℕ) (next : ℕ) (sound : SoundBook (m .book) next) (j : Entry) (bound : Cents) where
+module _ (m : Market) (t : ℕ) (was : List ℕ) (next : ℕ) (sound : SoundBook (m .book) next) (j : Entry) (bound : ℕ) where
   abbrev b : Book
   b = m .book
 
@@ -82,22 +78,22 @@ module _ (m : Market) (t : ℕ) (was : List ℕ) (next : ℕ) (sound : SoundBook
   a = m .session .terms .allocation
 
   abbrev f : ℕ
-  f = filled b (opposite j) (bound .0) (j .size .0)
+  f = filled b (opposite j) bound (j .size .0)
 
   abbrev resting : ℕ → ℕ
-  resting u = ofTenant b u (traded b (opposite j) (bound .0) (j .size .0) a)
+  resting u = ofTenant b u (traded b (opposite j) bound (j .size .0) a)
 
   -- what its records tell
   abbrev told : ℕ → ℕ
   told =
-      let w = tradeWritten b (opposite j) (bound .0) (j .size .0) a was in
-      inRecords w (quantityIn w) (tradeRecords b (opposite j) (bound .0) (j .size .0) a)
+      let w = tradeWritten b (opposite j) bound (j .size .0) a was in
+      inRecords w (quantityIn w) (tradeRecords b (opposite j) bound (j .size .0) a)
 
   told-is : (u : ℕ) → resting u ≡ told u
-  told-is u = sym (trade-told b next sound (opposite j) (bound .0) (j .size .0) a was u)
+  told-is u = sym (trade-told b next sound (opposite j) bound (j .size .0) a was u)
 
   told-all : sumTo told tenants ≡ f
-  told-all = sum-same tenants (λ u _. sym (told-is u)) ∙ trade-all b next sound (opposite j) (bound .0) (j .size .0) a was
+  told-all = sum-same tenants (λ u _. sym (told-is u)) ∙ trade-all b next sound (opposite j) bound (j .size .0) a was
 
   -- one more addition to what counting the turn made
   then : (xs ys : List Tally) → length xs ≡ tenants → ys ≡ counted xs t 1 0 0 → (g h : ℕ → ℕ) → Adds xs (added (λ u. 0) g h ys) (λ u. countsFor u (Lane t)) g h
@@ -117,7 +113,7 @@ module _ (m : Market) (t : ℕ) (was : List ℕ) (next : ℕ) (sound : SoundBook
 
   traded-adds :
       (xs ys : List Tally) → length xs ≡ tenants → ys ≡ counted xs t 1 0 0 → (x : Bool) → isBuy j ≡ x →
-      Adds xs (talliesAfter ys t j b (bound .0) a) (λ u. countsFor u (Lane t)) (λ u. pick x (onlyFor t f u) (told u)) (λ u. pick x (told u) (onlyFor t f u))
+      Adds xs (talliesAfter ys t j b bound a) (λ u. countsFor u (Lane t)) (λ u. pick x (onlyFor t f u) (told u)) (λ u. pick x (told u) (onlyFor t f u))
   unfolding talliesAfter restingShare
   traded-adds xs ys long e x is u l =
       ap (λ y. tallyAt (pick y (added (λ u. 0) (onlyFor t f) resting ys) (added (λ u. 0) resting (onlyFor t f) ys)) u) is ∙ sided-adds xs ys long e x u l
@@ -140,103 +136,93 @@ abbrev OpenCounts : Market → OpenDone → Type 0
 OpenCounts m d = Counts m (d .market) (opened (d .answer)) (d .records)
 
 -- settings refused, away and submit count nothing
-call-counts : (m next : Market) (d : Called) → next .session .tallies ≡ m .session .tallies → CallCame m next d → Counts m (d .market) (coded (d .code)) []
-call-counts m next d same came = record {
-  adds = λ u h. ap (λ (x : List Tally). tallyAt x u) (kept came) ∙ adds-none (m .session .tallies) u h;
-  even = refl;
-}
-  where
-    kept : CallCame m next d → d .market .session .tallies ≡ m .session .tallies
-    kept (outcomes.refused n h e) = ap (λ (x : Called). x .market .session .tallies) e
-    kept (outcomes.accepted e) = ap (λ (x : Called). x .market .session .tallies) e ∙ same
+none-counts : (m next : Market) (code : ℕ) → next .session .tallies ≡ m .session .tallies → Counts m next (coded code) []
+none-counts m next code same = record { adds = λ u h. ap (λ (x : List Tally). tallyAt x u) same ∙ adds-none (m .session .tallies) u h; even = refl }
 
-set-counts : (m : Market) (given : Settings) (d : Called) → resets (settings given) (coded (d .code)) ≡ false → SetCame m given d → Counts m (d .market) (coded (d .code)) []
-set-counts m given d r (outcomes.refused e) = call-counts m m d refl (outcomes.refused 7 (omega arith) e)
-set-counts m given d r (outcomes.accepted g e) = absurd (true≢false (subst (λ (x : Called). resets (settings given) (coded (x .code)) ≡ false) e r))
+call-counts : (m next : Market) (n : ℕ) {d : Called} → next .session .tallies ≡ m .session .tallies → CallCame m next n d → Counts m (d .market) (coded (d .code)) []
+call-counts m next n same (outcomes.refused h) = none-counts m m n refl
+call-counts m next n same (outcomes.accepted e) = none-counts m next 0 same
 
--- an order that rests at once has nothing filled and no record
-rest-none : (x : Bool) (t u : ℕ) (l : List ℕ) → pick x (onlyFor t 0 u) (inRecords l (quantityIn l) 0 u) ≡ 0
-rest-none x t u l = picked-of-both (λ k. k ≡ 0) x _ _ (only-none t u) (sum-zero _)
+set-counts : (m : Market) (given : Settings) {d : Called} → resets (settings given) (coded (d .code)) ≡ false → SetCame m given d → Counts m (d .market) (coded (d .code)) []
+set-counts m given r (outcomes.refused none) = none-counts m m 7 refl
+set-counts m given r (outcomes.accepted g e h) = absurd (true≢false r)
 
-rest-none-sold : (x : Bool) (t u : ℕ) (l : List ℕ) → pick x (inRecords l (quantityIn l) 0 u) (onlyFor t 0 u) ≡ 0
-rest-none-sold x t u l = picked-of-both (λ k. k ≡ 0) x _ _ (sum-zero _) (only-none t u)
+-- an accepted settings empties the tallies
+set-resets : (m : Market) (given : Settings) {d : Called} → resets (settings given) (coded (d .code)) ≡ true → SetCame m given d → d .market .session .tallies ≡ noTallies
+set-resets m given r (outcomes.refused none) = absurd (false≢true r)
+set-resets m given r (outcomes.accepted g e h) = refl
+
+-- the one or the other of two that are 0
+either-none : (x : Bool) {a b : ℕ} → a ≡ 0 → b ≡ 0 → pick x a b ≡ 0
+either-none x = picked-of-both (λ k. k ≡ 0) x _ _
 
 module _ (m : Market) (stands : Stands m) where
-  module _ (t : ℕ) (tenant : t < tenants) (set : m .session .accepted ≡ true) (was : List ℕ) (d : TurnDone) where
-    counted-once : Adds (m .session .tallies) (counted (m .session .tallies) t 1 0 0) (λ u. countsFor u (Lane t)) (λ u. 0) (λ u. 0)
+  module _ (t : ℕ) (tenant : t < tenants) (set : m .session .accepted ≡ true) (was : List ℕ) where
+    counted-once : Adds (m .session .tallies) (turnCounted m t) (λ u. countsFor u (Lane t)) (λ u. 0) (λ u. 0)
     counted-once = taken-adds (m .session .tallies) t (stands .shaped .tallies-long)
 
-    taken-counts : TakenCame m t was d → TurnCounts m d
-    unfolding afterTaking restTurn tradeTurn filledOf
-    taken-counts (outcomes.down code e) = subst (TurnCounts m) (sym e) (record { adds = counted-once; even = refl })
-    taken-counts (outcomes.cancelled row e) = subst (TurnCounts m) (sym e) (record { adds = counted-once; even = refl })
-    taken-counts (outcomes.rested j e) =
-        let side = isBuy (headEntry m t) in
-        subst (TurnCounts m) (sym e) (record {
-          adds = λ u h. counted-once u h ∙ plus-same (tallyAt (m .session .tallies) u) refl (sym (rest-none side t u was)) (sym (rest-none-sold side t u was));
-          even = sum-none tenants (λ u _. rest-none side t u was) ∙ sym (sum-none tenants (λ u _. rest-none-sold side t u was));
-        })
-    taken-counts (outcomes.traded j bound judged e) =
-        let side : isBuy j ≡ isBuy (headEntry m t) = ap isBuy judged ∙ judged-side (headEntry m t) _ _ in
+    taken-counts : {d : TurnDone} → OutcomeOf m was t d → TurnCounts m d
+    taken-counts (of-cancel c (cancels h)) = record { adds = counted-once; even = refl }
+    taken-counts (of-cancel c (no-such h)) = record { adds = counted-once; even = refl }
+    taken-counts (of-order c (turned-down h)) = record { adds = counted-once; even = refl }
+    -- an order that rests at once has nothing filled and no record
+    taken-counts (of-order c (rests n o)) =
+        let buys : (u : ℕ) → boughtIn m (turned (restDone m t was .answer)) was u ≡ 0 = λ u. either-none _ (only-none t u) (sum-zero _) in
+        let sells : (u : ℕ) → soldIn m (turned (restDone m t was .answer)) was u ≡ 0 = λ u. either-none _ (sum-zero _) (only-none t u) in
+        record {
+          adds = λ u h. counted-once u h ∙ plus-same (tallyAt (m .session .tallies) u) refl (sym (buys u)) (sym (sells u));
+          even = sum-none tenants (λ u _. buys u) ∙ sym (sum-none tenants (λ u _. sells u));
+        }
+    taken-counts (of-order c (trades n o)) =
+        let side = judged-side (headEntry m t) (quotesIn m) (m .session .terms) in
         let book = stands .sound set .ready .book in
-        subst (TurnCounts m) (sym e) (record {
-          adds = traded-adds m t was (m .session .next) book j bound (m .session .tallies) _ (stands .shaped .tallies-long) refl (isBuy (headEntry m t)) side;
-          even = traded-even m t was (m .session .next) book j bound tenant (isBuy (headEntry m t));
-        })
+        record {
+          adds = traded-adds m t was (m .session .next) book (judged m t) (boundIn m t) (m .session .tallies) _ (stands .shaped .tallies-long) refl (isBuy (headEntry m t)) side;
+          even = traded-even m t was (m .session .next) book (judged m t) (boundIn m t) tenant (isBuy (headEntry m t));
+        }
 
-  turn-counts : (lent : ℕ) (was : List ℕ) → TurnCounts m (turnOf m lent was)
-  unfolding served
-  turn-counts lent was = elim (turn-came m lent was) [
-    | outcomes.refused n e ↦ subst (TurnCounts m) (sym e) (record { adds = adds-none (m .session .tallies); even = refl })
-    | outcomes.took t set is came ↦
-        let first = served-first (waits (m .session .lanes)) (m .session .lanes .place) (stands .shaped .place) t .0 is in
-        taken-counts t (first .lane) set was (turnOf m lent was) came
-  ]
+  turn-counts : (lent : ℕ) (was : List ℕ) {d : TurnDone} → turn-cases.Outcome m lent was d → TurnCounts m d
+  turn-counts lent was (turn-cases.refused h) = record { adds = adds-none (m .session .tallies); even = refl }
+  turn-counts lent was (turn-cases.taken t s o) =
+      taken-counts t (turn-cases.first-busy m t (stands .shaped .place) (s .lane) .lane) (turn-cases.served-set m lent t s) was o
 
-  open-counts : (lent : ℕ) (was : List ℕ) → OpenCounts m (openOf m lent was)
+  open-counts : (lent : ℕ) (was : List ℕ) {d : OpenDone} → open-cases.Outcome m lent was d → OpenCounts m d
   unfolding openAt openQuiet
-  open-counts lent was = elim (open-came m lent was) [
-    | outcomes.refused n e ↦ subst (OpenCounts m) (sym e) (record { adds = adds-none (m .session .tallies); even = refl })
-    | outcomes.matched p set e ↦
-        let book = stands .sound set .ready .book in
-        let buys = bought-told (m .book) (m .session .next) book p was in
-        let sells = sold-told (m .book) (m .session .next) book p was in
-        subst (OpenCounts m) (sym e) (record {
-          adds = λ u h.
-              added-at _ _ _ (m .session .tallies) u (rw (stands .shaped .tallies-long) h)
-              ∙ plus-same (tallyAt (m .session .tallies) u) refl (sym (buys u)) (sym (sells u));
-          even =
-              sum-same tenants (λ u _. buys u)
-              ∙ (bought-all (m .book) (m .session .next) book p was
-              ∙ (sym (sold-all (m .book) (m .session .next) book p was) ∙ sym (sum-same tenants (λ u _. sells u))));
-        })
-    | outcomes.quiet set e ↦ subst (OpenCounts m) (sym e) (record {
-      adds = λ u h. adds-none (m .session .tallies) u h ∙ plus-same (tallyAt (m .session .tallies) u) refl (sym (sum-zero _)) (sym (sum-zero _));
-      even = sum-same tenants (λ u _. sum-zero _ ∙ sym (sum-zero _));
-    })
-  ]
+  open-counts lent was (open-cases.refused h) = record { adds = adds-none (m .session .tallies); even = refl }
+  open-counts lent was (open-cases.quiet e c) = record {
+    adds = λ u h. adds-none (m .session .tallies) u h ∙ plus-same (tallyAt (m .session .tallies) u) refl (sym (sum-zero _)) (sym (sum-zero _));
+    even = sum-same tenants (λ u _. sum-zero _ ∙ sym (sum-zero _));
+  }
+  open-counts lent was (open-cases.opens p e c f) =
+      let book = stands .sound (open-cases.open-set m lent e) .ready .book in
+      let buys = bought-told (m .book) (m .session .next) book (p .0) was in
+      let sells = sold-told (m .book) (m .session .next) book (p .0) was in
+      record {
+        adds = λ u h.
+            added-at _ _ _ (m .session .tallies) u (rw (stands .shaped .tallies-long) h)
+            ∙ plus-same (tallyAt (m .session .tallies) u) refl (sym (buys u)) (sym (sells u));
+        even =
+            sum-same tenants (λ u _. buys u)
+            ∙ (bought-all (m .book) (m .session .next) book (p .0) was
+            ∙ (sym (sold-all (m .book) (m .session .next) book (p .0) was) ∙ sym (sum-same tenants (λ u _. sells u))));
+      }
 
   step-counts : (c : Call) → resets c (step m c .answer) ≡ false → Counts m (step m c .market) (step m c .answer) (step m c .records)
-  step-counts (settings given) r = set-counts m given (settingsOf m given) r (set-came m given)
-  step-counts (away bid offer) r = call-counts m _ (awayOf m bid offer) refl (away-came m bid offer)
-  step-counts (submit tenant count ns) r = call-counts m _ (submitOf m tenant count ns) refl (submit-came m tenant count ns)
-  step-counts (turn lent was) r = turn-counts lent was
-  step-counts (opening lent was) r = open-counts lent was
+  step-counts (settings given) r = set-counts m given r (set-came m given)
+  step-counts (away bid offer) r = call-counts m _ _ refl (away-came m bid offer)
+  step-counts (submit tenant count ns) r = call-counts m _ _ refl (submit-came m tenant count ns)
+  step-counts (turn lent was) r = turn-counts lent was (turn-cases.outcome m lent was)
+  step-counts (opening lent was) r = open-counts lent was (open-cases.outcome m lent was)
 
-  -- an accepted settings empties the tallies
   step-resets : (c : Call) → resets c (step m c .answer) ≡ true → step m c .market .session .tallies ≡ noTallies
-  step-resets (settings given) r = go (settingsOf m given) r (set-came m given)
-    where
-      go : (d : Called) → resets (settings given) (coded (d .code)) ≡ true → SetCame m given d → d .market .session .tallies ≡ noTallies
-      go d r (outcomes.refused e) = absurd (false≢true (subst (λ (x : Called). resets (settings given) (coded (x .code)) ≡ true) e r))
-      go d r (outcomes.accepted g e) = ap (λ (x : Called). x .market .session .tallies) e
+  step-resets (settings given) r = set-resets m given r (set-came m given)
   step-resets (away bid offer) r = absurd (false≢true r)
   step-resets (submit tenant count ns) r = absurd (false≢true r)
   step-resets (turn lent was) r = absurd (false≢true r)
   step-resets (opening lent was) r = absurd (false≢true r)
 
 no-tally : (u : ℕ) → u < tenants → tallyAt noTallies u ≡ tallies.zero
-no-tally u = getD-replicate {A = Tally} 9 u tallies.zero tallies.zero
+no-tally u = getD-replicate {A = Tally} tenants u tallies.zero tallies.zero
 
 -- a number of the tallies, and what each call counts for it
 module _ (field : Tally → ℕ) (part : ℕ → Market → Call → ℕ) (nothing : field tallies.zero ≡ 0)
@@ -287,8 +273,8 @@ call-even : (m : Market) → Stands m → (c : Call) → sumTo (λ u. boughtBy u
 call-even m stands (settings given) = refl
 call-even m stands (away bid offer) = refl
 call-even m stands (submit tenant count ns) = refl
-call-even m stands (turn lent was) = turn-counts m stands lent was .even
-call-even m stands (opening lent was) = open-counts m stands lent was .even
+call-even m stands (turn lent was) = turn-counts m stands lent was (turn-cases.outcome m lent was) .even
+call-even m stands (opening lent was) = open-counts m stands lent was (open-cases.outcome m lent was) .even
 
 pub tallies-told : Tallies
 tallies-told = record {

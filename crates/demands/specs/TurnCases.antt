@@ -1,151 +1,282 @@
--- What a turn comes to, case by case.
-use mathlib.Core.Path.{_≡_, refl}
-use mathlib.Core.Bool.{Bool, true, false}
+-- What a turn comes to, case by case: for each outcome the market, the answer and the fill records that it leaves, in
+-- the words of the demands. What this crate knows of how a turn is worked out stands here alone.
+use mathlib.Core.Path.{_≡_, refl, sym, ap, _∙_, subst}
+use mathlib.Core.Bool.{true, false, true≢false}
 use mathlib.Core.List.{List}
-use Prim.Native.Nat.{ℕ, _≤_, _<_}
+use Prim.Native.Nat.{ℕ, _+_, _-_, _≤_, _<_}
 use native.Mathlib.Omega.{arith}
-use lib.Dec.{ltb}
+use lib.Dec.{ltb, eqb}
+use lib.ListN.{length}
 use borrow.Author.Tests.{ltb-true, ltb-false}
-use Rattle.units.specs.declared.Cents.{Cents}
-use Rattle.units.specs.declared.Contracts.{Contracts}
-use Rattle.units.specs.Units.{contracts}
-use Rattle.units.specs.Tests.{pick, holds-not-fails}
-use Rattle.units.specs.CaseLaws.{given-none, none-at}
-use Rattle.book.specs.Book.{rowOf, freed}
-use Rattle.entry.specs.declared.Entry.{Entry}
-use Rattle.entry.specs.Entry.{isCancel}
+use Rattle.units.specs.Units.{contracts, tenants}
+use Rattle.units.specs.Tests.{pick, picked, picked-of-both, not-false}
+use Rattle.book.specs.Book.{Book, rowOf, freed, rested}
+use Rattle.book.specs.Trading.{filled, afterTrade, tradeRecords, tradeWritten}
+use Rattle.entry.specs.Entry.{isCancel, isBuy}
+use Rattle.entry.specs.Quotes.{quotesOf}
 use Rattle.checks.specs.TurnDown.{turnDown}
 use Rattle.judge.specs.declared.Judged.{Judged}
 use Rattle.judge.specs.declared.Judged.the-variants.{TurnedDown, Rests, Trades}
-use Rattle.judge.specs.Bound.{boundOf}
+use Rattle.judge.specs.Disposition.{dispositionOf}
 use Rattle.judge.specs.Verdict.{verdict}
-use Rattle.judge.specs.VerdictLaws.{Taken, Ruled, ruled}
+use Rattle.judge.specs.VerdictLaws.{Ruled, ruled}
 use Rattle.lanes.specs.declared.Served.{Served}
 use Rattle.lanes.specs.declared.Served.the-variants.{Lane, Nobody}
-use Rattle.lanes.specs.Rotation.{served}
+use Rattle.lanes.specs.Ring.{taken as laneTaken}
+use Rattle.lanes.specs.Rotation.{waits, served}
+use Rattle.lanes.specs.Runs.{FirstBusy}
+use Rattle.lanes.specs.RotationLaws.{served-first}
+use Rattle.tally.specs.declared.Tally.{Tally}
+use Rattle.tally.specs.Tallies.{counted}
+use Rattle.tally.specs.TallyLaws.{added-length}
+use Rattle.dealing.specs.Floor.{Floor, Made}
+use Rattle.dealing.specs.Settle.{opposite, talliesAfter}
+use Rattle.dealing.specs.Deal.{quotesOn, filledOf, dispositionIn, bookAfter, byVerdict, ordered, dealt}
+use Rattle.dealing.specs.Deal.{cancels as cancelMade, rests as restMade, trades as tradeMade}
 use Rattle.session.specs.declared.TurnAnswer.{TurnAnswer}
 use Rattle.session.specs.declared.TurnAnswer.the-variants as answer
-use Rattle.session.specs.Market.{Market, marketOf}
-use Rattle.session.specs.Turn.{TurnDone, quotesIn, standingOf, nobody, turnCases, turnRefusal, tradedTo, afterTaking, turnedDown, cancelTurn, restTurn, tradeTurn, byVerdict, orderTurn, entryTurn, turnOfLane, turnOf}
-use Rattle.demands.specs.Demand2.{headEntry}
-
--- the market once the turn of lane t is taken
-abbrev pub onceTaken : Market → ℕ → Market
-onceTaken m t = marketOf (afterTaking (m .session) t) (m .book) (m .entries)
-
--- a taken turn of lane t
-pub record ServedAs (m : Market) (lent t : ℕ) : Type 0 where
-  pub not-refused : turnRefusal (m .session) lent ≡ 0
-  pub lane : served (m .session .lanes) ≡ Lane t
-
--- an order of that turn is not turned down, and is judged as j
-abbrev pub TakenAs : Market → ℕ → Entry → Type 0
-TakenAs m t j = Taken (headEntry m t) (quotesIn m) (m .session .terms) (standingOf m t) j
-
--- an accepted cancel
-abbrev pub cancelDone : Market → ℕ → List ℕ → TurnDone
-cancelDone m t was = record {
-  market =
-      tradedTo (onceTaken m t) (freed (m .book) (rowOf (m .book) t (headEntry m t .number))) (onceTaken m t .session .next) (onceTaken m t .session .tallies);
-  answer = answer.Cancelled t (headEntry m t .number);
-  records = was;
-}
-
--- a taken turn of tenant t
-module _ (m : Market) (was : List ℕ) (t : ℕ) where
-  pub data OutcomeOf : TurnDone → Type 0 where
-    cancels : isCancel (headEntry m t) ≡ true → rowOf (m .book) t (headEntry m t .number) < m .book .places → OutcomeOf (cancelDone m t was)
-    no-such : isCancel (headEntry m t) ≡ true → m .book .places ≤ rowOf (m .book) t (headEntry m t .number)
-        → OutcomeOf (turnedDown (onceTaken m t) t was 18)
-    turned-down : (n : ℕ) → isCancel (headEntry m t) ≡ false → n ≡ turnDown (headEntry m t) (quotesIn m) (m .session .terms) (standingOf m t) → 0 < n
-        → OutcomeOf (turnedDown (onceTaken m t) t was n)
-    rests : (j : Entry) → isCancel (headEntry m t) ≡ false → m .session .opened ≡ false → TakenAs m t j → OutcomeOf (restTurn (onceTaken m t) t was j)
-    trades : (j : Entry) (b : Cents) → isCancel (headEntry m t) ≡ false → m .session .opened ≡ true → TakenAs m t j
-        → b ≡ boundOf j (quotesIn m) (m .session .terms) → OutcomeOf (tradeTurn (onceTaken m t) t was j b)
-
-  by-verdict : isCancel (headEntry m t) ≡ false
-      → (v : Judged) → Ruled (headEntry m t) (quotesIn m) (m .session .terms) (standingOf m t) v → OutcomeOf (byVerdict (onceTaken m t) t was v)
-  by-verdict c (TurnedDown n) r = turned-down n c (r .0) (r .1)
-  by-verdict c (Rests j) r = rests j c (r .0) (r .1)
-  by-verdict c (Trades j b) r = trades j b c (r .0) (r .1) (r .2)
-
-  by-cancel : isCancel (headEntry m t) ≡ true
-      → (b : Bool) → ltb (rowOf (m .book) t (headEntry m t .number)) (m .book .places) ≡ b → OutcomeOf (pick b (cancelDone m t was) (turnedDown (onceTaken m t) t was 18))
-  unfolding pick
-  by-cancel c true h = cancels c (ltb-true _ _ h)
-  by-cancel c false h = no-such c (ltb-false _ _ h)
-
-  by-entry : (b : Bool) → isCancel (headEntry m t) ≡ b
-      → OutcomeOf (pick b (cancelTurn (onceTaken m t) t was (headEntry m t)) (orderTurn (onceTaken m t) t was (headEntry m t)))
-  unfolding pick cancelTurn orderTurn afterTaking quotesIn
-  by-entry true c = by-cancel c (ltb (rowOf (m .book) t (headEntry m t .number)) (m .book .places)) refl
-  by-entry false c =
-      by-verdict c (verdict (headEntry m t) (quotesIn m) (m .session .terms) (standingOf m t)) (ruled (headEntry m t) (quotesIn m) (m .session .terms) (standingOf m t))
-
-  pub entry-outcome : OutcomeOf (entryTurn (onceTaken m t) t was (headEntry m t))
-  unfolding entryTurn
-  entry-outcome = by-entry (isCancel (headEntry m t)) refl
-
-module _ (m : Market) (lent : ℕ) (was : List ℕ) where
-  pub served-outcome : (t : ℕ) → ServedAs m lent t → OutcomeOf m was t (turnOf m lent was)
-  unfolding turnOf pick
-  served-outcome t s = rw (s .not-refused, s .lane) (entry-outcome m was t)
-
-  pub data Outcome : TurnDone → Type 0 where
-    refused : (n : ℕ) → turnRefusal (m .session) lent ≡ n → 0 < n → Outcome (record { market = m; answer = answer.Refused n; records = was })
-    taken : (t : ℕ) {d : TurnDone} → ServedAs m lent t → OutcomeOf m was t d → Outcome d
-
-  somebody : turnRefusal (m .session) lent ≡ 0 → nobody (served (m .session .lanes)) ≡ false
-  unfolding turnRefusal
-  somebody e = none-at (turnCases (m .session) lent) 1 (given-none 0 (turnCases (m .session) lent) refl .0 e)
-
-  by-lane : turnRefusal (m .session) lent ≡ 0 → (s : Served) → served (m .session .lanes) ≡ s → nobody s ≡ false → Outcome (turnOfLane m was s)
-  by-lane e (Lane t) h n = taken t (record { not-refused = e; lane = h }) (entry-outcome m was t)
-  by-lane e Nobody h n = absurd (holds-not-fails refl n)
-
-  by-refusal : (b : Bool) → ltb 0 (turnRefusal (m .session) lent) ≡ b
-      → Outcome (pick b (record { market = m; answer = answer.Refused (turnRefusal (m .session) lent); records = was }) (turnOfLane m was (served (m .session .lanes))))
-  unfolding pick
-  by-refusal true h = refused (turnRefusal (m .session) lent) refl (ltb-true _ _ h)
-  by-refusal false h =
-      let none : turnRefusal (m .session) lent ≡ 0 = omega (arith, ltb-false 0 (turnRefusal (m .session) lent) h) in
-      by-lane none (served (m .session .lanes)) refl (somebody none)
-
-  pub outcome : Outcome (turnOf m lent was)
-  unfolding turnOf
-  outcome = by-refusal (ltb 0 (turnRefusal (m .session) lent)) refl
+use Rattle.session.specs.Market.{Market, marketOf, sessionWith, floorOn}
+use Rattle.session.specs.Turn.{TurnDone, Line, Printed, printed, refused as printedRefused, turn as printedTurn, quotesIn, standingOf, nobody, turnCases, turnRefusal, afterTaking, turnMade, entryTurn, turnOfLane, turnOf}
+use Rattle.demands.specs.Runs.{turned, isRefused, laneIn, headEntry}
+use Rattle.demands.specs.InOrderLaws.{fails-at}
+use Rattle.demands.specs.Demand2.{judged, boundIn, onceTraded}
 
 -- ---- answers, told apart
 
 -- which kind of answer it is
-unfoldable pub kindOf : TurnAnswer → ℕ
+abbrev pub kindOf : TurnAnswer → ℕ
 kindOf (answer.Refused n) = 0
 kindOf (answer.TurnedDown t n) = 1
 kindOf (answer.Cancelled t n) = 2
 kindOf (answer.Accepted t n f d k) = 3
 
--- the number of a refusal or a turn-down
-unfoldable pub numberOf : TurnAnswer → ℕ
-numberOf (answer.Refused n) = n
-numberOf (answer.TurnedDown t n) = n
-numberOf (answer.Cancelled t n) = n
-numberOf (answer.Accepted t n f d k) = n
+-- its values in the paper's numbers, a refusal's number as their code
+abbrev valuesOf : Printed → Line
+valuesOf (printedRefused n) = record { tenant = 0; code = n; number = 0; filled = 0; disposition = 0 }
+valuesOf (printedTurn l) = l
 
-unfoldable pub tenantOf : TurnAnswer → ℕ
-tenantOf (answer.Refused n) = 0
-tenantOf (answer.TurnedDown t n) = t
-tenantOf (answer.Cancelled t n) = t
-tenantOf (answer.Accepted t n f d k) = t
+abbrev pub lineOf : TurnAnswer → Line
+lineOf a = valuesOf (printed a)
 
--- what an accepted order has
-unfoldable pub answerFilled : TurnAnswer → Contracts
-answerFilled (answer.Refused n) = contracts 0
-answerFilled (answer.TurnedDown t n) = contracts 0
-answerFilled (answer.Cancelled t n) = contracts 0
-answerFilled (answer.Accepted t n f d k) = f
+-- ---- what is left
 
-unfoldable pub answerDisposition : TurnAnswer → ℕ
-answerDisposition (answer.Refused n) = 0
-answerDisposition (answer.TurnedDown t n) = 0
-answerDisposition (answer.Cancelled t n) = 5
-answerDisposition (answer.Accepted t n f d k) = d
+-- the quotes that an order meets have the away quote as it is
+pub quotes-away : (m : Market) → quotesIn m .away ≡ m .session .away
+unfolding quotesOn quotesOf
+quotes-away m = refl
+
+-- the market that a taken turn of lane t leaves, by its book, its next number and its tallies
+abbrev pub leftWith : Market → ℕ → Book → ℕ → List Tally → Market
+leftWith m t book next tallies =
+    marketOf (sessionWith (m .session) (m .session .away) (m .session .opened) (laneTaken (m .session .lanes) t) next tallies) book (m .entries)
+
+module _ (m : Market) (t : ℕ) where
+  -- the tallies with one turn more for t, and the market once the turn is taken
+  abbrev pub turnCounted : List Tally
+  turnCounted = counted (m .session .tallies) t 1 0 0
+
+  abbrev pub onceTaken : Market
+  onceTaken = leftWith m t (m .book) (m .session .next) turnCounted
+
+  -- the number by which a new order is turned down, 0 for none
+  abbrev pub downBy : ℕ
+  downBy = turnDown (headEntry m t) (quotesIn m) (m .session .terms) (standingOf m t)
+
+  -- the row of the order that a cancel names
+  abbrev pub cancelRow : ℕ
+  cancelRow = rowOf (m .book) t (headEntry m t .number)
+
+  -- of an order that trades: what is filled, its disposition, how many records are written, and the book left
+  abbrev pub filledIn : ℕ
+  filledIn = filled (m .book) (opposite (judged m t)) (boundIn m t) (judged m t .size .0)
+
+  abbrev pub disposedIn : ℕ
+  disposedIn = dispositionOf (judged m t) (quotesIn m) (m .session .terms) (contracts (judged m t .size .0 - filledIn))
+
+  abbrev pub fillsBy : ℕ
+  fillsBy = tradeRecords (m .book) (opposite (judged m t)) (boundIn m t) (judged m t .size .0) (m .session .terms .allocation)
+
+  abbrev pub bookLeft : Book
+  bookLeft =
+      pick (eqb disposedIn 1) (rested (onceTraded m t) (judged m t .side) (judged m t .price .0) (judged m t .size .0 - filledIn) t (m .session .next)) (onceTraded m t)
+
+  module _ (was : List ℕ) where
+    -- an entry turned down by n
+    abbrev pub downDone : ℕ → TurnDone
+    downDone n = record { market = onceTaken; answer = answer.TurnedDown t n; records = was }
+
+    -- an accepted cancel
+    abbrev pub cancelDone : TurnDone
+    cancelDone = record {
+      market = leftWith m t (freed (m .book) cancelRow) (m .session .next) turnCounted;
+      answer = answer.Cancelled t (headEntry m t .number);
+      records = was;
+    }
+
+    -- an order that simply rests
+    abbrev pub restDone : TurnDone
+    restDone = record {
+      market =
+          leftWith m t (rested (m .book) (judged m t .side) (judged m t .price .0) (judged m t .size .0) t (m .session .next)) (m .session .next + 1) turnCounted;
+      answer = answer.Accepted t (m .session .next) (contracts 0) 1 0;
+      records = was;
+    }
+
+    -- an order that trades
+    abbrev pub tradeDone : TurnDone
+    tradeDone = record {
+      market = leftWith m t bookLeft (m .session .next + 1) (talliesAfter turnCounted t (judged m t) (m .book) (boundIn m t) (m .session .terms .allocation));
+      answer = answer.Accepted t (m .session .next) (contracts filledIn) disposedIn fillsBy;
+      records = tradeWritten (m .book) (opposite (judged m t)) (boundIn m t) (judged m t .size .0) (m .session .terms .allocation) was;
+    }
+
+-- ---- the outcomes
+
+-- a taken turn of tenant t
+module _ (m : Market) (was : List ℕ) (t : ℕ) where
+  -- of a cancel: the order rests as its tenant's, or none does
+  pub data CancelOf : TurnDone → Type 0 where
+    cancels : cancelRow m t < m .book .places → CancelOf (cancelDone m t was)
+    no-such : m .book .places ≤ cancelRow m t → CancelOf (downDone m t was 18)
+
+  -- of a new order: turned down, or before the opening at rest, or once open traded
+  pub data OrderOf : TurnDone → Type 0 where
+    turned-down : 0 < downBy m t → OrderOf (downDone m t was (downBy m t))
+    rests : downBy m t ≡ 0 → m .session .opened ≡ false → OrderOf (restDone m t was)
+    trades : downBy m t ≡ 0 → m .session .opened ≡ true → OrderOf (tradeDone m t was)
+
+  pub data OutcomeOf (d : TurnDone) : Type 0 where
+    of-cancel : isCancel (headEntry m t) ≡ true → CancelOf d → OutcomeOf d
+    of-order : isCancel (headEntry m t) ≡ false → OrderOf d → OutcomeOf d
+
+  abbrev taking : Market
+  taking = marketOf (afterTaking (m .session) t) (m .book) (m .entries)
+
+  -- what its entry meets
+  abbrev floor : Floor
+  floor = floorOn (taking .session) (m .book)
+
+  cancel-of : CancelOf (turnMade taking t (cancelMade floor t was (headEntry m t)))
+  unfolding cancelMade afterTaking
+  cancel-of =
+      picked (λ (d : Made). CancelOf (turnMade taking t d)) (ltb (cancelRow m t) (m .book .places)) _ _ (λ h. cancels (ltb-true _ _ h)) (λ h. no-such (ltb-false _ _ h))
+
+  by-verdict : (v : Judged) → Ruled (headEntry m t) (quotesIn m) (m .session .terms) (standingOf m t) v → OrderOf (turnMade taking t (byVerdict floor t was v))
+  unfolding restMade tradeMade filledOf dispositionIn bookAfter quotesOn afterTaking
+  by-verdict (TurnedDown n) (is, some) = rw is (turned-down (rw is at some))
+  by-verdict (Rests j) (shut, k) = rw (k .as-judged) (rests (k .not-turned-down) shut)
+  by-verdict (Trades j b) (opened, k, bound) = rw (bound, k .as-judged) (trades (k .not-turned-down) opened)
+
+  order-of : OrderOf (turnMade taking t (ordered floor t was (headEntry m t)))
+  unfolding ordered afterTaking quotesOn
+  order-of =
+      by-verdict (verdict (headEntry m t) (quotesIn m) (m .session .terms) (standingOf m t)) (ruled (headEntry m t) (quotesIn m) (m .session .terms) (standingOf m t))
+
+  entry-of : OutcomeOf (entryTurn taking t was (headEntry m t))
+  unfolding dealt
+  entry-of = picked (λ (d : Made). OutcomeOf (turnMade taking t d)) (isCancel (headEntry m t)) _ _ (λ c. of-cancel c cancel-of) (λ c. of-order c order-of)
+
+-- What every taken turn leaves, however its entry comes out: the answer names its tenant; of the lanes that one has
+-- lost its head, and the place has moved. Where the entry is turned down, that and the count of the turn is all.
+pub record Leaves (m : Market) (was : List ℕ) (t : ℕ) (d : TurnDone) : Type 0 where
+  pub names : laneIn (turned (d .answer)) ≡ Lane t
+  pub not-refused : isRefused (turned (d .answer)) ≡ false
+  pub lanes : d .market .session .lanes ≡ laneTaken (m .session .lanes) t
+  pub accepted : d .market .session .accepted ≡ m .session .accepted
+  pub places : d .market .book .places ≡ m .book .places
+  pub tallies-long : length (d .market .session .tallies) ≡ length (m .session .tallies)
+  pub down : kindOf (d .answer) ≡ 1 → (d .market ≡ onceTaken m t) × (d .records ≡ was)
+
+module _ (m : Market) (was : List ℕ) (t : ℕ) where
+  -- what a turn leaves is told by its book, its tallies, its answer and its records
+  left :
+      (book : Book) (next : ℕ) (tallies : List Tally) (a : TurnAnswer) (records : List ℕ) → laneIn (turned a) ≡ Lane t → isRefused (turned a) ≡ false →
+      book .places ≡ m .book .places → length tallies ≡ length (m .session .tallies) →
+      (kindOf a ≡ 1 → (leftWith m t book next tallies ≡ onceTaken m t) × (records ≡ was)) →
+      Leaves m was t (record { market = leftWith m t book next tallies; answer = a; records = records })
+  left book next tallies a records names taken places long down = record {
+    names = names;
+    not-refused = taken;
+    lanes = refl;
+    accepted = refl;
+    places = places;
+    tallies-long = long;
+    down = down;
+  }
+
+  counted-long : length (turnCounted m t) ≡ length (m .session .tallies)
+  counted-long = added-length _ _ _ 0 (m .session .tallies)
+
+  traded-long : length (talliesAfter (turnCounted m t) t (judged m t) (m .book) (boundIn m t) (m .session .terms .allocation)) ≡ length (m .session .tallies)
+  unfolding talliesAfter
+  traded-long =
+      picked-of-both (λ (x : List Tally). length x ≡ length (turnCounted m t)) (isBuy (judged m t)) _ _ (added-length _ _ _ 0 _) (added-length _ _ _ 0 _) ∙ counted-long
+
+  traded-places : bookLeft m t .places ≡ m .book .places
+  unfolding rested afterTrade
+  traded-places = picked-of-both (λ (x : Book). x .places ≡ m .book .places) (eqb (disposedIn m t) 1) _ _ refl refl
+
+  pub leaves : {d : TurnDone} → OutcomeOf m was t d → Leaves m was t d
+  unfolding rested freed
+  leaves (of-cancel c (cancels h)) = left _ _ _ _ _ refl refl refl counted-long (λ k. absurd (omega arith))
+  leaves (of-cancel c (no-such h)) = left _ _ _ _ _ refl refl refl counted-long (λ k. (refl, refl))
+  leaves (of-order c (turned-down h)) = left _ _ _ _ _ refl refl refl counted-long (λ k. (refl, refl))
+  leaves (of-order c (rests n o)) = left _ _ _ _ _ refl refl refl counted-long (λ k. absurd (omega arith))
+  leaves (of-order c (trades n o)) = left _ _ _ _ _ refl refl traded-places traded-long (λ k. absurd (omega arith))
+
+-- ---- the whole call
+
+-- the turn is taken, and of lane t
+pub record ServedAs (m : Market) (lent t : ℕ) : Type 0 where
+  pub not-refused : turnRefusal (m .session) lent ≡ 0
+  pub lane : served (m .session .lanes) ≡ Lane t
+
+-- that is the first lane with an entry, at or after the rotation place
+pub first-busy : (m : Market) (t : ℕ) → m .session .lanes .place < tenants → served (m .session .lanes) ≡ Lane t
+    → FirstBusy (waits (m .session .lanes)) (m .session .lanes .place) t
+unfolding served
+first-busy m t h is = served-first (waits (m .session .lanes)) (m .session .lanes .place) h t .0 is
+
+-- and settings are accepted
+pub served-set : (m : Market) (lent t : ℕ) → ServedAs m lent t → m .session .accepted ≡ true
+unfolding turnRefusal
+served-set m lent t s = not-false (m .session .accepted) (fails-at 0 (turnCases (m .session) lent) refl (s .not-refused) 0)
+
+module _ (m : Market) (lent : ℕ) (was : List ℕ) where
+  -- refused by its number, or taken
+  pub data Outcome : TurnDone → Type 0 where
+    refused : 0 < turnRefusal (m .session) lent → Outcome (record { market = m; answer = answer.Refused (turnRefusal (m .session) lent); records = was })
+    taken : (t : ℕ) {d : TurnDone} → ServedAs m lent t → OutcomeOf m was t d → Outcome d
+
+  by-lane : turnRefusal (m .session) lent ≡ 0 → (s : Served) → served (m .session .lanes) ≡ s → nobody s ≡ false → Outcome (turnOfLane m was s)
+  by-lane e (Lane t) h n = taken t (record { not-refused = e; lane = h }) (entry-of m was t)
+  by-lane e Nobody h n = absurd (true≢false n)
+
+  not-refused : turnRefusal (m .session) lent ≡ 0 → Outcome (turnOfLane m was (served (m .session .lanes)))
+  unfolding turnRefusal
+  not-refused e = by-lane e (served (m .session .lanes)) refl (fails-at 0 (turnCases (m .session) lent) refl e 1)
+
+  pub outcome : Outcome (turnOf m lent was)
+  unfolding turnOf
+  outcome =
+      let r = turnRefusal (m .session) lent in
+      picked Outcome (ltb 0 r) _ _ (λ h. refused (ltb-true 0 r h)) (λ h. not-refused (omega (arith, ltb-false 0 r h)))
+
+  pub served-outcome : (t : ℕ) → ServedAs m lent t → OutcomeOf m was t (turnOf m lent was)
+  unfolding turnOf pick
+  served-outcome t s = rw (s .not-refused, s .lane) (entry-of m was t)
+
+  pub served-leaves : (t : ℕ) → ServedAs m lent t → Leaves m was t (turnOf m lent was)
+  served-leaves t s = leaves m was t (served-outcome t s)
+
+  -- a turn whose answer names t is t's
+  pub named : (t : ℕ) → laneIn (turned (turnOf m lent was .answer)) ≡ Lane t → ServedAs m lent t
+  named t = go outcome
+    where
+      laneOf : Served → ℕ
+      laneOf (Lane u) = u
+      laneOf Nobody = 0
+
+      go : {d : TurnDone} → Outcome d → laneIn (turned (d .answer)) ≡ Lane t → ServedAs m lent t
+      go (refused h) e = absurd (true≢false (ap nobody e))
+      go (taken u s o) e = subst (ServedAs m lent) (ap laneOf (sym (leaves m was u o .names) ∙ e)) s

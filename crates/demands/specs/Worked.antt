@@ -11,7 +11,7 @@ use Rattle.units.specs.Firsts.{firstTo}
 use Rattle.units.specs.Leasts.{leastTo, greatestTo}
 use Rattle.units.specs.Places.{table}
 use Rattle.rows.specs.Rows.{keyOf, within, openSize, buyPrice, sellPrice, restsFor}
-use Rattle.rows.specs.Passes.{highestBuy, lowestSell, standing, restingRows, freeRow}
+use Rattle.rows.specs.Passes.{highestBuy, lowestSell, restingWithin, restingRows, freeRow}
 use Rattle.book.specs.Book.{emptyBook, bestOffer, crosses, rested}
 use Rattle.book.specs.Allocation.{classOf, before, earlier, left, fill}
 use Rattle.book.specs.Records.{soonerThan, pos, ofTraded, records, recorded, fieldOf, written}
@@ -32,10 +32,12 @@ use Rattle.session.specs.declared.TurnAnswer.the-variants as turn-answer
 use Rattle.session.specs.declared.OpenAnswer.the-variants as open-answer
 use Rattle.session.specs.Market.{Market}
 use Rattle.session.specs.Settings.{newSession, settingsOf}
-use Rattle.session.specs.Submit.{wellCounted, someMalformed, submitRefusal, submitOf}
-use Rattle.session.specs.Turn.{quotesIn, turnRefusal, afterTaking, restTurn, filledOf, dispositionIn, bookAfter, tradeTurn, orderTurn, entryTurn, turnOf}
-use Rattle.session.specs.Settle.{restingShare, talliesAfter}
-use Rattle.session.specs.Opening.{choiceOf, openRefusal, openQuiet, openOf}
+use Rattle.lanes.specs.Bulk.{wellCounted, someMalformed}
+use Rattle.session.specs.Submit.{submitRefusal, submitOf}
+use Rattle.dealing.specs.Deal.{quotesOn, rests, filledOf, dispositionIn, bookAfter, trades, ordered, dealt}
+use Rattle.session.specs.Turn.{turnRefusal, afterTaking, turnOf}
+use Rattle.dealing.specs.Settle.{restingShare, talliesAfter}
+use Rattle.session.specs.Open.{choiceOf, openRefusal, openQuiet, openOf}
 use Rattle.demands.specs.Markets.{worked}
 use Rattle.demands.specs.Runs.{Call, settings, submit, turn, opening, coded, turned, opened, answers, recordsLeft}
 
@@ -71,12 +73,12 @@ pub worked-example :
     ∷ [])
     × (recordsLeft start calls ≡ [] ∷ [] ∷ [] ∷ [] ∷ replicate 8 0 ∷ (1 ∷ 2 ∷ 3 ∷ 100 ∷ 0 ∷ 0 ∷ 0 ∷ 0 ∷ []) ∷ [] ∷ [])
 unfolding sumTo same lower precedes firstTo leastTo greatestTo table keyOf within openSize buyPrice sellPrice restsFor
-    highestBuy lowestSell standing restingRows freeRow bestOffer crosses rested classOf before earlier left fill
+    highestBuy lowestSell restingWithin restingRows freeRow bestOffer crosses rested classOf before earlier left fill
     soonerThan pos ofTraded records recorded fieldOf written ofTenant filled traded afterTrade tradeRecords tradeWritten
     oneOrTwo from1to seriesInRange protectionsInRange printsInRange inRange priced newOrder cancelling malformed lowerOffer quotesOf
     notYet offGrid atStrike noOffer unbid noBid converts asJudged tooWide farBuy farSell farPrice mightRest noRoom usedUp turnDown
     buyBound sellBound boundOf beyondDrill atAway dispositionOf verdict entryAt slot waitingAt put putAll joined taken distance servedBy served
     usable midpoint valid firstValid priceOf settingsOf wellCounted someMalformed submitRefusal submitOf addedFrom
-    quotesIn turnRefusal afterTaking restTurn filledOf dispositionIn bookAfter restingShare talliesAfter tradeTurn orderTurn entryTurn turnOf
+    quotesOn turnRefusal afterTaking rests filledOf dispositionIn bookAfter restingShare talliesAfter trades ordered dealt turnOf
     choiceOf openRefusal openQuiet openOf _and_ _or_ isNot pick lowerIf higherIf
 worked-example = (refl, refl)

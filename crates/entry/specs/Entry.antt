@@ -3,9 +3,9 @@
 use mathlib.Core.Bool.{Bool}
 use lib.Dec.{leb, eqb}
 use Rattle.units.specs.Tests.{_and_, _or_, isNot}
-use Rattle.rows.specs.Rows.{highest}
+use Rattle.rows.specs.Rows.{highest, largest}
 use Rattle.entry.specs.declared.Entry.{Entry}
-use Rattle.entry.specs.Numbers.{largest, oneOrTwo, from1to}
+use Rattle.entry.specs.Numbers.{oneOrTwo, from1to}
 
 abbrev pub isLimit : Entry → Bool
 isLimit e = eqb (e .kind) 1

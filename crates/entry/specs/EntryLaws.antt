@@ -7,9 +7,9 @@ use native.Mathlib.Omega.{arith}
 use lib.Dec.{eqb}
 use borrow.Author.Tests.{eqb-true}
 use Rattle.units.specs.Tests.{_and_, and-true, or-true, or-first, not-false}
-use Rattle.rows.specs.Rows.{highest}
+use Rattle.rows.specs.Rows.{highest, largest}
 use Rattle.entry.specs.declared.Entry.{Entry}
-use Rattle.entry.specs.Numbers.{largest, oneOrTwo, from1to}
+use Rattle.entry.specs.Numbers.{oneOrTwo, from1to}
 use Rattle.entry.specs.NumberLaws.{from1to-bounds}
 use Rattle.entry.specs.Entry.{isLimit, isMarket, isCancel, isBuy, isSell, isDay, isNow, priced, newOrder, cancelling, malformed}
 

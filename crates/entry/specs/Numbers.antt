@@ -1,17 +1,21 @@
--- The numbers used, and the words for their ranges.
-use Prim.Native.Nat.{ℕ}
+-- The numbers of an entry and of a bulk, quotes that are there or not, and the words for the ranges of numbers.
+use Prim.Native.Nat.{ℕ, _*_}
 use mathlib.Core.Bool.{Bool}
 use lib.Dec.{leb, ltb, eqb}
 use Rattle.units.specs.declared.Cents.{Cents}
 use Rattle.units.specs.Tests.{_and_, _or_}
 
--- sizes are 1 to 999,999
-abbrev pub largest : ℕ
-largest = 999999
+-- an entry is six numbers
+abbrev pub entryNumbers : ℕ
+entryNumbers = 6
 
--- order numbers run from 1 to 4,294,967,295
-abbrev pub lastNumber : ℕ
-lastNumber = 4294967295
+-- a bulk message is 1 to 20 entries
+abbrev pub bulk : ℕ
+bulk = 20
+
+-- so many numbers at most
+abbrev pub bulkNumbers : ℕ
+bulkNumbers = entryNumbers * bulk
 
 -- an absent quote is 0
 abbrev pub absent : Cents → Bool

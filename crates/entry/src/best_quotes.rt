@@ -1,6 +1,8 @@
 // NBB and NBO.
 use crate::Away;
 use crate::Quotes;
+use rows::row::greater;
+use rows::row::lesser;
 use units::Cents;
 ghost use mathlib.Core.Path.{_≡_};
 ghost use Prim.Native.Nat.{max};
@@ -11,7 +13,7 @@ ghost use Rattle.entry.specs.Quotes.{lowerOffer, quotesOf};
 fn higher_bid(a: Cents, b: Cents) -> Cents
     ensures { λ r. ⌜ r ≡ cents (max (a .0) (b .0)) ⌝ }
 {
-    if a.0 < b.0 { b } else { a }
+    Cents(greater(a.0, b.0))
 }
 
 // An absent offer is 0 too, and is ignored.
@@ -24,7 +26,7 @@ fn lower_offer(a: Cents, b: Cents) -> Cents
     if b.0 == 0 {
         return a;
     }
-    if a.0 < b.0 { a } else { b }
+    Cents(lesser(a.0, b.0))
 }
 
 // The quotes that an order is judged by, from the book's best prices and the away quote.

@@ -6,14 +6,12 @@ use crate::MARKET;
 use crate::numbers::from_one_to;
 use crate::numbers::one_or_two;
 use rows::HIGHEST;
+use rows::LARGEST;
 use units::words::both;
 use units::words::either;
 use units::words::is_not;
 ghost use mathlib.Core.Path.{_≡_};
 ghost use Rattle.entry.specs.Entry.{priced, newOrder, cancelling, malformed};
-
-// The largest size, in contracts.
-const LARGEST: u32 = 999999;
 
 // A limit has a price, a market order none.
 fn priced(e: Entry) -> bool

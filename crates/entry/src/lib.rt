@@ -9,6 +9,15 @@ mod numbers;
 pub mod ranges;
 pub mod words;
 
+// The numbers of an entry.
+pub const ENTRY_NUMBERS: usize = 6;
+
+// The most entries of a bulk.
+pub const BULK: u32 = 20;
+
+// The most numbers of a bulk's entries.
+pub const BULK_NUMBERS: usize = ENTRY_NUMBERS * BULK as usize;
+
 pub const LIMIT: u32 = 1;
 
 pub const MARKET: u32 = 2;
@@ -49,7 +58,7 @@ pub struct Terms {
     pub close: Cents,
 }
 
-// An entry as given: six numbers. Kind 1 limit, 2 market, 3 cancel; side 1 buy, 2 sell; life 1 day, 2 now.
+// An entry as given. Kind 1 limit, 2 market, 3 cancel; side 1 buy, 2 sell; life 1 day, 2 now.
 pub struct Entry {
     pub kind: u32,
     pub side: u32,

@@ -1,4 +1,5 @@
 // The words for prices that the rules add and take away, in numbers that hold any two of them.
+use rows::row::beyond;
 use units::Cents;
 ghost use mathlib.Core.Path.{_≡_};
 ghost use Prim.Native.Nat.{_+_, _-_};
@@ -21,9 +22,5 @@ pub fn plus(a: Cents, b: Cents) -> u64
 pub fn less(a: Cents, b: Cents) -> Cents
     ensures { λ r. ⌜ r .0 ≡ a .0 - b .0 ⌝ }
 {
-    if b.0 < a.0 {
-        Cents(a.0 - b.0)
-    } else {
-        Cents(0)
-    }
+    Cents(beyond(a.0, b.0))
 }

@@ -4,13 +4,14 @@ use mathlib.Core.List.{List}
 use lib.ListN.{length, replicate}
 use Rattle.rows.specs.Rows.{rows}
 use Rattle.book.specs.Book.{Book}
+use Rattle.book.specs.Records.{fields}
 use Rattle.session.specs.declared.Turned.{Turned}
 use Rattle.session.specs.declared.TurnAnswer.{TurnAnswer}
 use Rattle.session.specs.declared.Opened.{Opened}
 use Rattle.session.specs.declared.OpenAnswer.{OpenAnswer}
 use Rattle.session.specs.Market.{Market, marketOf}
 use Rattle.session.specs.Turn.{TurnDone, turnOf, fillsIn}
-use Rattle.session.specs.Opening.{OpenDone, openOf, fillsIn as fillsOpened}
+use Rattle.session.specs.Open.{OpenDone, openOf, fillsIn as fillsOpened}
 use Rattle.fills.specs.declared.Fill.{Fill}
 use Rattle.fills.specs.Fills.{stored}
 
@@ -36,7 +37,7 @@ openFills d row = record { market = d .market; answer = d .answer; fills = store
 
 -- flat records with nothing written
 abbrev pub blank : List ℕ
-blank = replicate (4 * rows) 0
+blank = replicate (fields * rows) 0
 
 -- the turn of the rules, with as many fill records lent as the row has
 abbrev pub turnWith : Market → List Fill → Stored TurnAnswer

@@ -7,18 +7,18 @@ use native.Mathlib.Omega.{arith}
 use lib.ListN.{length}
 use lib.Dec.{ltb}
 use borrow.Author.Tests.{ltb-false, lt-ltb}
-use Rattle.units.specs.Tests.{_and_, isNot, pick, picked}
+use Rattle.units.specs.Tests.{isNot, pick, picked}
 use Rattle.rows.specs.Rows.{rows}
 use Rattle.book.specs.Book.{Book, crosses}
 use Rattle.book.specs.RecordLaws.{records-most}
 use Rattle.book.specs.Trading.{tradeRecords}
-use Rattle.book.specs.Opening.{openingRecords}
+use Rattle.opening.specs.Opening.{openingRecords}
 use Rattle.price.specs.Price.{chosen}
 use Rattle.units.specs.CaseLaws.{given-none, none-at}
-use Rattle.judge.specs.Verdict.{verdict}
-use Rattle.lanes.specs.Ring.{waitingAt}
-use Rattle.judge.specs.declared.Judged.{Judged}
-use Rattle.judge.specs.declared.Judged.the-variants.{TurnedDown, Rests, Trades}
+use Rattle.entry.specs.declared.Entry.{Entry}
+use Rattle.dealing.specs.Floor.{Floor}
+use Rattle.dealing.specs.Deal.{rests, trades, dealt}
+use Rattle.dealing.specs.DealLaws.{dealt-by}
 use Rattle.lanes.specs.declared.Served.{Served}
 use Rattle.lanes.specs.declared.Served.the-variants.{Lane, Nobody}
 use Rattle.lanes.specs.Rotation.{served}
@@ -28,9 +28,9 @@ use Rattle.session.specs.declared.Opened.{Opened}
 use Rattle.session.specs.declared.TurnAnswer.the-variants as answer
 use Rattle.session.specs.declared.OpenAnswer.the-variants as opened
 use Rattle.session.specs.TurnLaws.{refused-6}
-use Rattle.session.specs.Market.{Market, marketOf}
-use Rattle.session.specs.Turn.{TurnDone, turnDone, turnRefusal, turnOf, turnOfLane, quotesIn, standingOf, turnCases, afterTaking, byVerdict, cancelTurn, restTurn, orderTurn, entryTurn, tradeTurn, fillsIn}
-use Rattle.session.specs.Opening.{OpenDone, openDone, choiceOf, openCases, openRefusal, openQuiet, openAt, openOf, fillsIn as fillsOpened}
+use Rattle.session.specs.Market.{Market, floorOn}
+use Rattle.session.specs.Turn.{TurnDone, turnDone, turnRefusal, turnOf, turnOfLane, turnCases, onceTaken, headEntry, answerOf, fillsIn}
+use Rattle.session.specs.Open.{OpenDone, openDone, choiceOf, openCases, openRefusal, openQuiet, openAt, openOf, fillsIn as fillsOpened}
 use Rattle.fills.specs.declared.Fill.{Fill}
 use Rattle.fills.specs.Fills.{stored, Fits}
 use Rattle.fills.specs.Calls.{blank, turnStored, turnFills, turnWith, openStored, openFills, openWith}
@@ -39,22 +39,17 @@ use Rattle.fills.specs.Calls.{blank, turnStored, turnFills, turnWith, op
 abbrev Few : ℕ → TurnDone → Type 0
 Few n d = fillsIn (d .answer) ≤ n
 
-module _ (was : List ℕ) where
-  verdict-few : (m : Market) (t : ℕ) (v : Judged) → Few (m .book .places) (byVerdict m t was v)
-  unfolding restTurn tradeTurn tradeRecords
-  verdict-few m t (TurnedDown code) = omega arith
-  verdict-few m t (Rests o) = omega arith
-  verdict-few m t (Trades o bound) = records-most _
+entry-few : (f : Floor) (t : ℕ) (e : Entry) (was : List ℕ) → fillsIn (answerOf t (dealt f t was e .came)) ≤ f .book .places
+unfolding rests trades tradeRecords
+entry-few f t e = dealt-by f t e (λ d. (was : List ℕ) → fillsIn (answerOf t (d was .came)) ≤ f .book .places)
+    (λ code was. omega arith)
+    (λ was. omega arith)
+    (λ o was. omega arith)
+    (λ o bound was. records-most _)
 
-  lane-few : (m : Market) (l : Served) → Few (m .book .places) (turnOfLane m was l)
-  unfolding entryTurn cancelTurn orderTurn
-  lane-few m (Lane t) =
-      let taken = marketOf (afterTaking (m .session) t) (m .book) (m .entries) in
-      let e = waitingAt (m .session .lanes) (m .entries) t 0 in
-      picked (Few (m .book .places)) _ _ _
-      (λ _. picked (Few (m .book .places)) _ _ _ (λ _. omega arith) (λ _. omega arith))
-      (λ _. verdict-few taken t (verdict e (quotesIn taken) (taken .session .terms) (standingOf taken t)))
-  lane-few m Nobody = omega arith
+lane-few : (was : List ℕ) (m : Market) (l : Served) → Few (m .book .places) (turnOfLane m was l)
+lane-few was m (Lane t) = entry-few (floorOn (onceTaken m t .session) (m .book)) t (headEntry m t) was
+lane-few was m Nobody = omega arith
 
 -- a turn that is not refused has 216 records lent
 turn-lent : (s : Session) (lent : ℕ) → ltb 0 (turnRefusal s lent) ≡ false → rows ≤ lent

@@ -5,15 +5,16 @@ use lib.ListN.{length, drop}
 use Rattle.units.specs.Units.{cents, contracts}
 use Rattle.units.specs.Places.{at}
 use Rattle.rows.specs.Rows.{rows}
+use Rattle.book.specs.Records.{fields}
 use Rattle.fills.specs.declared.Fill.{Fill}
 
 -- record i of flat numbers, four to a record: order number, tenant, quantity and price
 abbrev pub fillAt : List ℕ → ℕ → Fill
 fillAt records i = record {
-  number = at records (4 * i);
-  tenant = at records (4 * i + 1);
-  quantity = contracts (at records (4 * i + 2));
-  price = cents (at records (4 * i + 3));
+  number = at records (fields * i);
+  tenant = at records (fields * i + 1);
+  quantity = contracts (at records (fields * i + 2));
+  price = cents (at records (fields * i + 3));
 }
 
 -- n fills, from record i on

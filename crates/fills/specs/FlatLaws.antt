@@ -10,20 +10,20 @@ use Rattle.units.specs.Units.{cents, contracts}
 use Rattle.units.specs.Tests.{pick}
 use Rattle.units.specs.Places.{at}
 use Rattle.book.specs.Allocation.{Resting}
-use Rattle.book.specs.Records.{records, written}
+use Rattle.book.specs.Records.{records, written, fields}
 use Rattle.book.specs.RecordSums.{written-at}
 use Rattle.book.specs.Trading.{tradeRecords, tradeWritten}
-use Rattle.book.specs.Opening.{openingRecords, openingWritten}
-use Rattle.judge.specs.declared.Judged.{Judged}
-use Rattle.judge.specs.declared.Judged.the-variants.{TurnedDown, Rests, Trades}
-use Rattle.judge.specs.Verdict.{verdict}
+use Rattle.opening.specs.Opening.{openingRecords, openingWritten}
+use Rattle.entry.specs.declared.Entry.{Entry}
+use Rattle.dealing.specs.Floor.{Floor}
+use Rattle.dealing.specs.Deal.{rests, trades, dealt}
+use Rattle.dealing.specs.DealLaws.{dealt-by}
 use Rattle.lanes.specs.declared.Served.{Served}
 use Rattle.lanes.specs.declared.Served.the-variants.{Lane, Nobody}
-use Rattle.lanes.specs.Ring.{waitingAt}
 use Rattle.lanes.specs.Rotation.{served}
-use Rattle.session.specs.Market.{Market, marketOf}
-use Rattle.session.specs.Turn.{TurnDone, turnOf, turnOfLane, quotesIn, standingOf, afterTaking, byVerdict, cancelTurn, restTurn, orderTurn, entryTurn, filledOf, dispositionIn, bookAfter, tradeTurn, fillsIn}
-use Rattle.session.specs.Opening.{OpenDone, openQuiet, openAt, openOf, fillsIn as fillsOpened}
+use Rattle.session.specs.Market.{Market, floorOn}
+use Rattle.session.specs.Turn.{TurnDone, turnOf, turnOfLane, onceTaken, headEntry, turnMade, fillsIn}
+use Rattle.session.specs.Open.{OpenDone, openQuiet, openAt, openOf, fillsIn as fillsOpened}
 use Rattle.fills.specs.declared.Fill.{Fill}
 use Rattle.fills.specs.Fills.{fillAt, stored}
 use Rattle.fills.specs.FillsLaws.{stored-same}
@@ -33,7 +33,7 @@ use Rattle.fills.specs.Calls.{blank, turnFills, turnWith, openFills, ope
 written-same : (r : Resting) (owner price : ℕ → ℕ) (was was′ : List ℕ) (k : ℕ) → k < records r
     → fillAt (written r owner price was) k ≡ fillAt (written r owner price was′) k
 written-same r owner price was was′ k l =
-    let number = rw (add-zero (4 * k)) at (field 0 (omega arith)) in
+    let number = rw (add-zero (fields * k)) at (field 0 (omega arith)) in
     λ i. record {
       number = number i;
       tenant = field 1 (omega arith) i;
@@ -41,7 +41,7 @@ written-same r owner price was was′ k l =
       price = cents (field 3 (omega arith) i);
     }
   where
-    field : (f : ℕ) → f < 4 → at (written r owner price was) (4 * k + f) ≡ at (written r owner price was′) (4 * k + f)
+    field : (f : ℕ) → f < fields → at (written r owner price was) (fields * k + f) ≡ at (written r owner price was′) (fields * k + f)
     field f h = written-at r owner price was k f l h ∙ sym (written-at r owner price was′ k f l h)
 
 -- what relates both pairs relates the pair picked
@@ -62,22 +62,16 @@ pub record Alike (d d′ : TurnDone) : Type 0 where
   pub records : (k : ℕ) → k < fillsIn (d .answer) → fillAt (d .records) k ≡ fillAt (d′ .records) k
 
 module _ (was was′ : List ℕ) where
-  verdict-alike : (m : Market) (t : ℕ) (v : Judged) → Alike (byVerdict m t was v) (byVerdict m t was′ v)
-  unfolding restTurn tradeTurn filledOf dispositionIn bookAfter tradeRecords tradeWritten
-  verdict-alike m t (TurnedDown code) = record { market = refl; answer = refl; records = λ k l. absurd (omega arith) }
-  verdict-alike m t (Rests o) = record { market = refl; answer = refl; records = λ k l. absurd (omega arith) }
-  verdict-alike m t (Trades o bound) = record { market = refl; answer = refl; records = λ k l. written-same _ _ _ was was′ k l }
+  entry-alike : (m : Market) (f : Floor) (t : ℕ) (e : Entry) → Alike (turnMade m t (dealt f t was e)) (turnMade m t (dealt f t was′ e))
+  unfolding rests trades tradeRecords tradeWritten
+  entry-alike m f t e = dealt-by f t e (λ d. Alike (turnMade m t (d was)) (turnMade m t (d was′)))
+      (λ code. record { market = refl; answer = refl; records = λ k l. absurd (omega arith) })
+      (record { market = refl; answer = refl; records = λ k l. absurd (omega arith) })
+      (λ o. record { market = refl; answer = refl; records = λ k l. absurd (omega arith) })
+      (λ o bound. record { market = refl; answer = refl; records = λ k l. written-same _ _ _ was was′ k l })
 
   lane-alike : (m : Market) (l : Served) → Alike (turnOfLane m was l) (turnOfLane m was′ l)
-  unfolding entryTurn cancelTurn orderTurn
-  lane-alike m (Lane t) =
-      let taken = marketOf (afterTaking (m .session) t) (m .book) (m .entries) in
-      let e = waitingAt (m .session .lanes) (m .entries) t 0 in
-      pairs Alike _
-      (pairs Alike _
-      (record { market = refl; answer = refl; records = λ k l. absurd (omega arith) })
-      (record { market = refl; answer = refl; records = λ k l. absurd (omega arith) }))
-      (verdict-alike taken t (verdict e (quotesIn taken) (taken .session .terms) (standingOf taken t)))
+  lane-alike m (Lane t) = entry-alike (onceTaken m t) (floorOn (onceTaken m t .session) (m .book)) t (headEntry m t)
   lane-alike m Nobody = record { market = refl; answer = refl; records = λ k l. absurd (omega arith) }
 
   turn-alike : (m : Market) (lent : ℕ) → Alike (turnOf m lent was) (turnOf m lent was′)

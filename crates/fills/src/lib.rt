@@ -1,5 +1,6 @@
 // The calls turn and open with their fill records lent as a row of structs.
 use book::Records;
+use book::records::FIELDS;
 use lanes::Entries;
 use rows::Column;
 use session::OpenAnswer;
@@ -15,11 +16,11 @@ ghost use mathlib.Core.Path.{_≡_};
 ghost use mathlib.Core.List.{List};
 ghost use Prim.Native.Nat.{ℕ, _*_, _<_};
 ghost use Rattle.rows.specs.Rows.{rows};
-ghost use Rattle.book.specs.Book.{bookOf};
-ghost use Rattle.session.specs.Market.{marketOf};
+ghost use Rattle.book.specs.Lent.{given, before, after};
+ghost use Rattle.session.specs.Market.{marketOf, marketLent, marketFound, marketLeft};
 ghost use Rattle.session.specs.Sound.{Sound, BookSound};
 ghost use Rattle.session.specs.Turn.{fillsIn};
-ghost use Rattle.session.specs.Opening.{fillsIn as fillsOpened};
+ghost use Rattle.session.specs.Open.{fillsIn as fillsOpened};
 ghost use Rattle.fills.specs.Fills.{fillAt, stored, Fits};
 ghost use Rattle.fills.specs.Calls.{turnStored, turnWith, openStored, openWith};
 
@@ -36,7 +37,7 @@ fn record_at(records: &Records, i: usize) -> Fill
     requires { ⌜ i < rows ⌝ }
     ensures { λ r. ⌜ r ≡ fillAt (now (records .entry)) i ⌝ }
 {
-    let at = 4 * i;
+    let at = FIELDS * i;
     Fill {
         number: records[at],
         tenant: records[at + 1],
@@ -92,9 +93,10 @@ pub fn turn(
     entries: &Entries,
     fills: &mut [Fill],
 ) -> Turned
-    requires { ⌜ Sound (marketOf s (bookOf (now sides) (now prices) (now sizes) (now owners) (now numbers)) (now entries)) ⌝ }
-    ensures exact { λ r. ⌜ turnStored r (bookOf (now (sides .exit)) (now (prices .exit)) (now (sizes .exit)) (now (owners .exit)) (now (numbers .exit))) (now (entries .entry)) (now (fills .exit)) ≡ turnWith (marketOf s (bookOf (now (sides .entry)) (now (prices .entry)) (now (sizes .entry)) (now (owners .entry)) (now (numbers .entry))) (now (entries .entry))) (now (fills .entry)) ⌝ }
-    ensures sound { λ r. ⌜ Sound (marketOf (r .session) (bookOf (now (sides .exit)) (now (prices .exit)) (now (sizes .exit)) (now (owners .exit)) (now (numbers .exit))) (now (entries .entry))) ⌝ }
+    requires { ⌜ Sound (marketLent s sides prices sizes owners numbers entries) ⌝ }
+    ensures exact { λ r. ⌜ turnStored r (after sides prices sizes owners numbers) (now (entries .entry)) (now (fills .exit))
+        ≡ turnWith (marketFound s sides prices sizes owners numbers entries) (now (fills .entry)) ⌝ }
+    ensures sound { λ r. ⌜ Sound (marketLeft (r .session) sides prices sizes owners numbers entries) ⌝ }
 {
     let mut records = [0u32; 864];
     let turned = turn_core(
@@ -123,9 +125,11 @@ pub fn open(
     numbers: &Column,
     fills: &mut [Fill],
 ) -> Opened
-    requires { ⌜ BookSound s (bookOf (now sides) (now prices) (now sizes) (now owners) (now numbers)) ⌝ }
-    ensures exact { λ r. ⌜ ((entries : List ℕ) → openStored r (bookOf (now (sides .entry)) (now (prices .entry)) (now (sizes .exit)) (now (owners .entry)) (now (numbers .entry))) entries (now (fills .exit)) ≡ openWith (marketOf s (bookOf (now (sides .entry)) (now (prices .entry)) (now (sizes .entry)) (now (owners .entry)) (now (numbers .entry))) entries) (now (fills .entry))) ⌝ }
-    ensures sound { λ r. ⌜ ((entries : List ℕ) → Sound (marketOf s (bookOf (now (sides .entry)) (now (prices .entry)) (now (sizes .entry)) (now (owners .entry)) (now (numbers .entry))) entries) → Sound (marketOf (r .session) (bookOf (now (sides .entry)) (now (prices .entry)) (now (sizes .exit)) (now (owners .entry)) (now (numbers .entry))) entries)) ⌝ }
+    requires { ⌜ BookSound s (given sides prices sizes owners numbers) ⌝ }
+    ensures exact { λ r. ⌜ ((entries : List ℕ) → openStored r (after sides prices sizes owners numbers) entries (now (fills .exit))
+        ≡ openWith (marketOf s (before sides prices sizes owners numbers) entries) (now (fills .entry))) ⌝ }
+    ensures sound { λ r. ⌜ ((entries : List ℕ) → Sound (marketOf s (before sides prices sizes owners numbers) entries)
+        → Sound (marketOf (r .session) (after sides prices sizes owners numbers) entries)) ⌝ }
 {
     let mut records = [0u32; 864];
     let opened = open_core(

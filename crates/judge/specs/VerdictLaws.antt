@@ -9,11 +9,10 @@ use Rattle.units.specs.declared.Cents.{Cents}
 use Rattle.units.specs.declared.Contracts.{Contracts}
 use Rattle.units.specs.Grid.{lowestOf}
 use Rattle.units.specs.Tests.{pick}
-use Rattle.rows.specs.Rows.{rowsATenant, highest}
+use Rattle.rows.specs.Rows.{rowsATenant, highest, lastNumber}
 use Rattle.entry.specs.declared.Entry.{Entry}
 use Rattle.entry.specs.declared.Quotes.{Quotes}
 use Rattle.entry.specs.declared.Terms.{Terms}
-use Rattle.entry.specs.Numbers.{lastNumber}
 use Rattle.entry.specs.Entry.{newOrder}
 use Rattle.entry.specs.EntryLaws.{Proper, new-proper}
 use Rattle.checks.specs.declared.Standing.{Standing}

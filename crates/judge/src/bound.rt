@@ -9,6 +9,8 @@ use entry::words::plus;
 use entry::words::wide;
 use rows::BUY;
 use rows::HIGHEST;
+use rows::row::greater;
+use rows::row::lesser_wide;
 use units::Cents;
 use units::words::both;
 ghost use mathlib.Core.Path.{_≡_};
@@ -20,11 +22,7 @@ fn lower(test: bool, price: u64, bound: u32) -> u32
     ensures { λ r. ⌜ r ≡ lowerIf test price bound ⌝ }
 {
     if test {
-        if price < bound as u64 {
-            price as u32
-        } else {
-            bound
-        }
+        lesser_wide(price, bound as u64) as u32
     } else {
         bound
     }
@@ -34,11 +32,7 @@ fn lower(test: bool, price: u64, bound: u32) -> u32
 fn higher(test: bool, price: u32, bound: u32) -> u32
     ensures { λ r. ⌜ r ≡ higherIf test price bound ⌝ }
 {
-    if test {
-        if bound < price { price } else { bound }
-    } else {
-        bound
-    }
+    if test { greater(price, bound) } else { bound }
 }
 
 // A market buy of a put stays below the strike.

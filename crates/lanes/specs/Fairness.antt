@@ -10,32 +10,32 @@ use native.Mathlib.Omega.{arith}
 use lib.Dec.{ltb}
 use lib.ListN.{length}
 use borrow.Author.Tests.{eq-eqb, ne-eqb, lt-ltb, le-ltb}
+use Rattle.units.specs.Units.{tenants}
 use Rattle.units.specs.Tests.{holds-not-fails, order, less, equal, more}
 use Rattle.units.specs.Sums.{sumTo, sum-le, sum-add, sum-none, sum-only, sum-less}
 use Rattle.units.specs.Picked.{keep, keep-most}
 use Rattle.lanes.specs.declared.Served.{Served}
 use Rattle.lanes.specs.declared.Served.the-variants.{Lane, Nobody}
-use Rattle.lanes.specs.Ring.{tenants}
 use Rattle.lanes.specs.Rotation.{on, servedBy}
 use Rattle.lanes.specs.Runs.{ahead, FirstBusy, moved, countsFor, turns, Always}
 use Rattle.lanes.specs.RotationLaws.{ahead-less, ahead-same, Serves, serves}
 
 -- x is y but for some times round
 abbrev Wraps : ℕ → ℕ → Type 0
-Wraps x y = (k : ℕ) × (x ≡ y + 9 * k)
+Wraps x y = (k : ℕ) × (x ≡ y + tenants * k)
 
 ahead-wraps : (p t : ℕ) → p < tenants → t < tenants → Wraps (p + ahead p t) t
 unfolding ahead
-ahead-wraps p t hp ht = (1 - (t + 9 - p) / 9, omega arith)
+ahead-wraps p t hp ht = (1 - (t + tenants - p) / tenants, omega arith)
 
 next-wraps : (t : ℕ) → Wraps (t + 1) (on t 1)
-next-wraps t = ((t + 1) / 9, omega arith)
+next-wraps t = ((t + 1) / tenants, omega arith)
 
 next-less : (t : ℕ) → on t 1 < tenants
 next-less t = omega arith
 
 -- as ahead-next says, over plain numbers
-round : (p t u q a b c : ℕ) → Wraps (t + 1) q → Wraps (p + a) t → Wraps (p + b) u → Wraps (q + c) u → a < 9 → b < 9 → c < 9
+round : (p t u q a b c : ℕ) → Wraps (t + 1) q → Wraps (p + a) t → Wraps (p + b) u → Wraps (q + c) u → a < tenants → b < tenants → c < tenants
     → (a < b → c + a + 1 ≡ b) × (b ≤ a → c + a ≡ b + 8)
 round p t u q a b c i j k l ha hb hc = omega arith
 

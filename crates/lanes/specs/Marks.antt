@@ -4,10 +4,11 @@ use Prim.Native.Nat.{ℕ, _+_, _-_, _%_, _≤_, _<_}
 use native.Mathlib.Omega.{arith}
 use lib.ListN.{length, length-set, length-replicate, getD-replicate}
 use borrow.Author.Tests.{ltb-true}
+use Rattle.units.specs.Units.{tenants}
 use Rattle.units.specs.Places.{set-each}
 use Rattle.lanes.specs.declared.Lanes.{Lanes}
 use Rattle.lanes.specs.declared.Served.the-variants.{Lane}
-use Rattle.lanes.specs.Ring.{tenants, depth, headOf, lenOf, joined, taken, empty}
+use Rattle.lanes.specs.Ring.{depth, headOf, lenOf, joined, taken, empty}
 use Rattle.lanes.specs.Asked.{CanJoin, CanTake}
 use Rattle.lanes.specs.Rotation.{waits, served}
 use Rattle.lanes.specs.RotationLaws.{served-first}

@@ -2,37 +2,39 @@
 use mathlib.Core.List.{List}
 use Prim.Native.Nat.{ℕ, zero, suc, _+_, _-_, _*_, _%_}
 use lib.ListN.{set, replicate}
-use Rattle.units.specs.Units.{cents, contracts}
-use Rattle.units.specs.Places.{at}
+use lib.Seq.{sets}
+use Rattle.units.specs.Units.{tenants, cents, contracts}
+use Rattle.units.specs.Places.{at, table}
 use Rattle.entry.specs.declared.Entry.{Entry}
+use Rattle.entry.specs.Numbers.{entryNumbers}
 use Rattle.lanes.specs.declared.Lanes.{Lanes}
 
--- tenants 0 to 8
-abbrev pub tenants : ℕ
-tenants = 9
-
--- A lane holds 64 entries,
+-- A lane holds 64 entries.
 abbrev pub depth : ℕ
 depth = 64
 
--- a bulk message 1 to 20.
-abbrev pub bulk : ℕ
-bulk = 20
-
--- the numbers of all lanes' entries: nine lanes of 64 entries of six numbers
+-- the numbers of all lanes' entries
 abbrev pub allEntries : ℕ
-allEntries = 3456
+allEntries = tenants * depth * entryNumbers
 
--- An entry is six numbers: the entry at place k of a list of such.
-unfoldable pub entryAt : List ℕ → ℕ → Entry
-entryAt ns k = record {
-  kind = at ns (k * 6);
-  side = at ns (k * 6 + 1);
-  life = at ns (k * 6 + 2);
-  price = cents (at ns (k * 6 + 3));
-  size = contracts (at ns (k * 6 + 4));
-  number = at ns (k * 6 + 5);
+-- the numbers of an entry come in this order
+abbrev pub entryOf : List ℕ → Entry
+entryOf v = record {
+  kind = at v 0;
+  side = at v 1;
+  life = at v 2;
+  price = cents (at v 3);
+  size = contracts (at v 4);
+  number = at v 5;
 }
+
+-- number i of entry k of a list of such; 0 past the end
+abbrev pub numberOf : List ℕ → ℕ → ℕ → ℕ
+numberOf ns k i = at ns (k * entryNumbers + i)
+
+-- entry k of a list of such
+unfoldable pub entryAt : List ℕ → ℕ → Entry
+entryAt ns k = entryOf (table (numberOf ns k) entryNumbers)
 
 -- where lane t's oldest entry stands in its ring, and how many wait
 abbrev pub headOf : Lanes → ℕ → ℕ
@@ -51,9 +53,7 @@ waitingAt l entries t i = entryAt entries (slot t (headOf l t) i)
 
 -- entry j of the numbers ns put at place k
 unfoldable pub put : List ℕ → ℕ → List ℕ → ℕ → List ℕ
-put entries k ns j =
-    set (set (set (set (set (set entries (k * 6) (at ns (j * 6))) (k * 6 + 1) (at ns (j * 6 + 1))) (k * 6 + 2) (at ns (j * 6 + 2)))
-    (k * 6 + 3) (at ns (j * 6 + 3))) (k * 6 + 4) (at ns (j * 6 + 4))) (k * 6 + 5) (at ns (j * 6 + 5))
+put entries k ns j = sets entries (k * entryNumbers) (table (numberOf ns j) entryNumbers)
 
 -- the first n entries of ns, as given and in their order, behind those waiting in lane t
 unfoldable pub putAll : Lanes → List ℕ → ℕ → List ℕ → ℕ → List ℕ

@@ -1,16 +1,18 @@
 -- Where entries stand in the rings, and what storing a bulk of them changes.
-use mathlib.Core.Path.{_≡_, refl, _∙_}
+use mathlib.Core.Path.{_≡_, refl, sym, _∙_, ap}
 use mathlib.Core.Logic.{_≢_}
-use mathlib.Core.List.{List, [], _∷_}
-use Prim.Native.Nat.{ℕ, zero, suc, _+_, _*_, _%_, _≤_, _<_}
+use mathlib.Core.List.{List, [], _∷_, _++_}
+use Prim.Native.Nat.{ℕ, zero, suc, _+_, _*_, _%_, _≤_, _<_, min}
 use native.Mathlib.Numerals.{add-one}
 use native.Mathlib.Omega.{arith}
-use lib.ListN.{length, length-set}
-use lib.Seq.{sets}
-use Rattle.units.specs.Places.{at, sets-old, sets-new}
+use lib.ListN.{length, set, List·getD-eq-default}
+use lib.Seq.{sets, length-sets}
+use Rattle.units.specs.Units.{tenants}
+use Rattle.units.specs.Places.{at, table, table-length, table-at, table-same, sets-old, sets-new}
 use Rattle.units.specs.Tests.{order, less, equal, more}
+use Rattle.entry.specs.Numbers.{entryNumbers}
 use Rattle.lanes.specs.declared.Lanes.{Lanes}
-use Rattle.lanes.specs.Ring.{tenants, depth, allEntries, entryAt, headOf, lenOf, slot, put, putAll}
+use Rattle.lanes.specs.Ring.{depth, allEntries, entryOf, numberOf, entryAt, headOf, lenOf, slot, put, putAll}
 
 pub slot-within : (t h i : ℕ) → t < tenants → slot t h i < tenants * depth
 unfolding slot
@@ -30,50 +32,58 @@ pub slot-next : (t h i : ℕ) → slot t h (i + 1) ≡ slot t ((h + 1) % depth) 
 unfolding slot
 slot-next t h i = omega arith
 
+-- an entry that starts past the end is read from the end on alike
+pub given-from : (ns : List ℕ) (j : ℕ) → entryOf (table (λ i. at ns (min (j * entryNumbers) (length ns) + i)) entryNumbers) ≡ entryAt ns j
+unfolding entryAt
+given-from ns j = ap entryOf (table-same entryNumbers (λ i p. same i))
+  where
+    same : (i : ℕ) → at ns (min (j * entryNumbers) (length ns) + i) ≡ numberOf ns j i
+    same i = elim (order (j * entryNumbers) (length ns)) [
+      | less h ↦ (let e : min (j * entryNumbers) (length ns) ≡ j * entryNumbers = omega arith in rw e)
+      | equal h ↦ (let e : min (j * entryNumbers) (length ns) ≡ j * entryNumbers = omega arith in rw e)
+      | more h ↦ List·getD-eq-default ns 0 (omega arith) ∙ sym (List·getD-eq-default ns 0 (omega arith))
+    ]
+
+-- a run of numbers stored from place i on, and one more behind it
+sets-last : (vs l : List ℕ) (i v : ℕ) → sets l i (vs ++ (v ∷ [])) ≡ set (sets l i vs) (i + length vs) v
+sets-last [] l i v = let e : i + 0 ≡ i = omega arith in rw e
+sets-last (x ∷ vs) l i v = let e : i + suc (length vs) ≡ suc i + length vs = omega arith in rw e (sets-last vs (set l i x) (suc i) v)
+
 module _ (entries : List ℕ) (k : ℕ) (ns : List ℕ) (j : ℕ) where
+  -- a loop that stores the numbers of entry j one by one: the first i of them are stored
+  abbrev pub putTo : ℕ → List ℕ
+  putTo i = sets entries (k * entryNumbers) (table (numberOf ns j) i)
+
+  pub put-none : putTo 0 ≡ entries
+  unfolding table
+  put-none = refl
+
+  pub put-next : (i : ℕ) → set (putTo i) (k * entryNumbers + i) (numberOf ns j i) ≡ putTo (i + 1)
+  unfolding table
+  put-next i =
+      let long = table-length (numberOf ns j) i in
+      rw add-one (sym (rw long at (sets-last (table (numberOf ns j) i) entries (k * entryNumbers) (numberOf ns j i))))
+
   pub put-length : length (put entries k ns j) ≡ length entries
   unfolding put
-  put-length = simp length-set
+  put-length = length-sets entries (k * entryNumbers) (table (numberOf ns j) entryNumbers)
 
-  -- the six numbers of entry j
-  abbrev six : List ℕ
-  six = at ns (j * 6) ∷ at ns (j * 6 + 1) ∷ at ns (j * 6 + 2) ∷ at ns (j * 6 + 3) ∷ at ns (j * 6 + 4) ∷ at ns (j * 6 + 5) ∷ []
-
-  put-sets : put entries k ns j ≡ sets entries (k * 6) six
-  unfolding put
-  put-sets =
-      let e : (i : ℕ) → (i + 1 ≡ suc i) × (i + 2 ≡ suc (suc i)) × (i + 3 ≡ suc (suc (suc i))) × (i + 4 ≡ suc (suc (suc (suc i)))) × (i + 5 ≡ suc (suc (suc (suc (suc i))))) = λ i. omega arith in
-      rw (e (k * 6) .0, e (k * 6) .1, e (k * 6) .2, e (k * 6) .3, e (k * 6) .4)
+  long : length (table (numberOf ns j) entryNumbers) ≡ entryNumbers
+  long = table-length (numberOf ns j) entryNumbers
 
   -- the entry at any other place stays
   pub put-old : (m : ℕ) → m ≢ k → entryAt (put entries k ns j) m ≡ entryAt entries m
-  unfolding entryAt
+  unfolding entryAt put
   put-old m n =
-      let old : (q : ℕ) → m * 6 ≤ q → q < m * 6 + 6 → at (put entries k ns j) q ≡ at entries q = λ q a b.
-      rw put-sets (sets-old six entries (k * 6) q (λ c d. n (omega arith))) in
-      rw (
-        old (m * 6) (omega arith) (omega arith),
-        old (m * 6 + 1) (omega arith) (omega arith),
-        old (m * 6 + 2) (omega arith) (omega arith),
-        old (m * 6 + 3) (omega arith) (omega arith),
-        old (m * 6 + 4) (omega arith) (omega arith),
-        old (m * 6 + 5) (omega arith) (omega arith),
-      )
+      ap entryOf (table-same entryNumbers (λ i p. sets-old (table (numberOf ns j) entryNumbers) entries (k * entryNumbers) (m * entryNumbers + i) (λ a b. n (omega (arith, long)))))
 
   -- and at place k stands entry j
-  pub put-new : k * 6 + 6 ≤ length entries → entryAt (put entries k ns j) k ≡ entryAt ns j
-  unfolding entryAt
+  pub put-new : k * entryNumbers + entryNumbers ≤ length entries → entryAt (put entries k ns j) k ≡ entryAt ns j
+  unfolding entryAt put
   put-new h =
-      let new : (q r : ℕ) → q ≡ k * 6 + r → r < 6 → at (put entries k ns j) q ≡ at six r = λ q r e p.
-      rw (e, put-sets) (sets-new six entries (k * 6) r p h) in
-      rw (
-        new (k * 6) 0 (omega arith) (omega arith),
-        new (k * 6 + 1) 1 refl (omega arith),
-        new (k * 6 + 2) 2 refl (omega arith),
-        new (k * 6 + 3) 3 refl (omega arith),
-        new (k * 6 + 4) 4 refl (omega arith),
-        new (k * 6 + 5) 5 refl (omega arith),
-      )
+      ap entryOf (table-same entryNumbers (λ i p.
+      sets-new (table (numberOf ns j) entryNumbers) entries (k * entryNumbers) i (omega (arith, long)) (omega (arith, long))
+      ∙ table-at (numberOf ns j) entryNumbers i p))
 
 module _ (l : Lanes) (entries : List ℕ) (t : ℕ) (ns : List ℕ) where
   pub put-all-none : putAll l entries t ns 0 ≡ entries

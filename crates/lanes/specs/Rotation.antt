@@ -2,12 +2,13 @@
 use mathlib.Core.Bool.{Bool}
 use Prim.Native.Nat.{ℕ, _+_, _%_}
 use lib.Dec.{ltb}
+use Rattle.units.specs.Units.{tenants}
 use Rattle.units.specs.Tests.{pick}
 use Rattle.units.specs.Firsts.{firstTo}
 use Rattle.lanes.specs.declared.Lanes.{Lanes}
 use Rattle.lanes.specs.declared.Served.{Served}
 use Rattle.lanes.specs.declared.Served.the-variants.{Lane, Nobody}
-use Rattle.lanes.specs.Ring.{tenants, lenOf}
+use Rattle.lanes.specs.Ring.{lenOf}
 
 -- the lane d places on
 abbrev pub on : ℕ → ℕ → ℕ

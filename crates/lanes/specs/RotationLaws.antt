@@ -6,12 +6,12 @@ use mathlib.Core.Logic.{_↔_}
 use Prim.Native.Nat.{ℕ, _≤_, _<_}
 use native.Mathlib.Omega.{arith}
 use borrow.Author.Tests.{lt-ltb, le-ltb}
+use Rattle.units.specs.Units.{tenants}
 use Rattle.units.specs.Tests.{pick-yes, pick-no, holds-not-fails, order, less, equal, more}
 use Rattle.units.specs.Firsts.{first-holds, first-before, first-least}
 use Rattle.lanes.specs.declared.Served.{Served}
 use Rattle.lanes.specs.declared.Served.the-variants.{Lane, Nobody}
-use Rattle.lanes.specs.Ring.{tenants}
-use Rattle.lanes.specs.Rotation.{on, distance, servedBy, served}
+use Rattle.lanes.specs.Rotation.{on, distance, servedBy}
 use Rattle.lanes.specs.Runs.{ahead, FirstBusy}
 
 -- round the lanes and back

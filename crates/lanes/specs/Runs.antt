@@ -4,10 +4,10 @@ use mathlib.Core.Bool.{Bool, true}
 use mathlib.Core.List.{List, [], _∷_}
 use Prim.Native.Nat.{ℕ, _+_, _-_, _%_, _≤_, _<_}
 use lib.Dec.{eqb}
+use Rattle.units.specs.Units.{tenants}
 use Rattle.units.specs.Picked.{keep}
 use Rattle.lanes.specs.declared.Served.{Served}
 use Rattle.lanes.specs.declared.Served.the-variants.{Lane, Nobody}
-use Rattle.lanes.specs.Ring.{tenants}
 use Rattle.lanes.specs.Rotation.{on, servedBy}
 
 -- how many places on a lane is, in order 0 to 8 and round again

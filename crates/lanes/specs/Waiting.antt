@@ -7,11 +7,12 @@ use native.Mathlib.Decide.{ℕ-discrete}
 use native.Mathlib.Omega.{arith}
 use lib.ListN.{length}
 use lib.Seq.{getD-set-same, getD-set-other}
+use Rattle.units.specs.Units.{tenants}
 use Rattle.units.specs.Tests.{order, less, equal, more}
 use Rattle.units.specs.Listed.{listed, listed-same, listed-add, listed-first}
 use Rattle.entry.specs.declared.Entry.{Entry}
 use Rattle.lanes.specs.declared.Lanes.{Lanes}
-use Rattle.lanes.specs.Ring.{tenants, depth, allEntries, entryAt, headOf, lenOf, slot, waitingAt, putAll, joined, taken}
+use Rattle.lanes.specs.Ring.{depth, allEntries, entryAt, headOf, lenOf, slot, waitingAt, putAll, joined, taken}
 use Rattle.lanes.specs.RingLaws.{slot-apart, slot-other, slot-next, put-all-old, put-all-new}
 
 -- the entries waiting in lane t

@@ -2,15 +2,18 @@
 use crate::DEPTH;
 use crate::Entries;
 use crate::Lanes;
-use crate::NUMBERS;
-use crate::TENANTS;
+use entry::ENTRY_NUMBERS;
 use entry::Entry;
 use units::Cents;
 use units::Contracts;
+use units::TENANTS;
 ghost use mathlib.Core.Path.{_≡_};
-ghost use Prim.Native.Nat.{_<_};
+ghost use Prim.Native.Nat.{_*_, _<_, min};
+ghost use lib.ListN.{length};
+ghost use Rattle.units.specs.Units.{tenants};
 ghost use Rattle.units.specs.Places.{at};
-ghost use Rattle.lanes.specs.Ring.{tenants, entryAt, headOf, slot, waitingAt, put, putAll, joined, taken};
+ghost use Rattle.entry.specs.Numbers.{entryNumbers};
+ghost use Rattle.lanes.specs.Ring.{entryAt, headOf, slot, waitingAt, put, putAll, joined, taken};
 ghost use Rattle.lanes.specs.Asked.{CanStore, CanPut, CanJoin, CanTake};
 
 // The number at a place, and 0 past the end.
@@ -20,21 +23,22 @@ fn number_at(ns: &[u32], i: usize) -> u32
     if i < ns.len() { ns[i] } else { 0 }
 }
 
-// Entry j of a row of numbers, six to an entry; all 0 past the end.
+// Where the numbers of entry j start in a row of numbers, or its end where that comes first.
+fn first_of(ns: &[u32], j: usize) -> usize
+    ensures { λ r. ⌜ r ≡ min (j * entryNumbers) (length (now (ns .entry))) ⌝ }
+{
+    if ns.len() / ENTRY_NUMBERS < j {
+        ns.len()
+    } else {
+        j * ENTRY_NUMBERS
+    }
+}
+
+// Entry j of a row of numbers; all 0 past the end.
 pub fn given(ns: &[u32], j: usize) -> Entry
     ensures { λ r. ⌜ r ≡ entryAt (now (ns .entry)) j ⌝ }
 {
-    if ns.len() <= j {
-        return Entry {
-            kind: 0,
-            side: 0,
-            life: 0,
-            price: Cents(0),
-            size: Contracts(0),
-            number: 0,
-        };
-    }
-    let first = j * NUMBERS;
+    let first = first_of(ns, j);
     Entry {
         kind: number_at(ns, first),
         side: number_at(ns, first + 1),
@@ -68,19 +72,18 @@ pub fn head(l: Lanes, entries: &Entries, t: usize) -> Entry
     entry_at(entries, slot(l, t, 0))
 }
 
-// The six numbers of entry j are stored at place k.
+// The numbers of entry j are stored at place k.
 fn put(entries: &mut Entries, k: usize, ns: &[u32], j: usize)
     requires { ⌜ CanStore (now entries) k (now ns) j ⌝ }
     ensures { λ r. ⌜ now (entries .exit) ≡ put (now (entries .entry)) k (now (ns .entry)) j ⌝ }
 {
-    let to = k * NUMBERS;
-    let from = j * NUMBERS;
-    entries[to] = ns[from];
-    entries[to + 1] = ns[from + 1];
-    entries[to + 2] = ns[from + 2];
-    entries[to + 3] = ns[from + 3];
-    entries[to + 4] = ns[from + 4];
-    entries[to + 5] = ns[from + 5];
+    let to = k * ENTRY_NUMBERS;
+    let from = j * ENTRY_NUMBERS;
+    let mut i = 0usize;
+    while i < ENTRY_NUMBERS {
+        entries[to + i] = ns[from + i];
+        i += 1;
+    }
 }
 
 // A bulk is put behind the entries waiting in a lane, in its order.

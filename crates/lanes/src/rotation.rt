@@ -1,7 +1,7 @@
 // The rotation: which lane the next turn serves.
 use crate::Lanes;
 use crate::Served;
-use crate::TENANTS;
+use units::TENANTS;
 ghost use mathlib.Core.Path.{_≡_};
 ghost use Rattle.lanes.specs.Rotation.{served};
 

@@ -1,15 +1,15 @@
 -- Laws of what a pass looks for and counts of one row.
 use mathlib.Core.Path.{_≡_}
-use mathlib.Core.Bool.{_&&_}
 use Prim.Native.Nat.{ℕ, _*_, _/_, _^_, _≤_, _<_}
-use native.Mathlib.Nat.{le-refl, mul-le-mul-left, mul-le-mul-right, mul-lt-mul-of-pos-right, div-le-of-le-mul, le-of-lt, lt-of-le-of-lt}
+use native.Mathlib.Nat.{le-refl, mul-le-mul-left, mul-le-mul-right, div-le-of-le-mul, le-of-lt, lt-of-le-of-lt}
 use native.Mathlib.Decide.{decLe}
 use native.Mathlib.Omega.{arith}
-use lib.Dec.{lit<, ltb, eqb}
+use lib.Dec.{lit<, eqb}
 use borrow.Author.Tests.{lt-ltb, le-ltb, le-leb, lt-leb}
+use Rattle.units.specs.Units.{most32}
 use Rattle.units.specs.Tests.{order, less, equal, more}
-use Rattle.units.specs.Picked.{keep, precedes, same}
-use Rattle.levels.specs.Levels.{candidate, wholeOf, larger}
+use Rattle.units.specs.Picked.{keep, same}
+use Rattle.levels.specs.Levels.{candidate, wholeOf, largerOf, larger}
 
 module _ (top floor k size : ℕ) where
   pub candidate-free : size ≡ 0 → candidate top floor k size ≡ top
@@ -32,8 +32,8 @@ module _ (top floor k size : ℕ) where
 pub share-most : (left size total : ℕ) → left < total → left * size / total ≤ size
 share-most left size total h = div-le-of-le-mul total (mul-le-mul-right size (le-of-lt h))
 
-pub product-fits : (a b : ℕ) → a < 2 ^ 32 → b < 2 ^ 32 → a * b < 2 ^ 64
-product-fits a b p q = lt-of-le-of-lt (mul-le-mul-left a (le-of-lt q)) (mul-lt-mul-of-pos-right p (lit< tt))
+pub product-fits : (a b : ℕ) → a ≤ most32 → b ≤ most32 → a * b < 2 ^ 64
+product-fits a b p q = lt-of-le-of-lt (mul-le-mul-left a q) (lt-of-le-of-lt (mul-le-mul-right most32 p) (lit< tt))
 
 pub whole-most : (left size total : ℕ) → wholeOf left size total ≤ size
 unfolding wholeOf
@@ -44,7 +44,7 @@ whole-most left size total = elim (decLe total left) [
 
 -- what a row counts for, as a loop's body gives it
 module _ (key size number : ℕ → ℕ) (c i : ℕ) {r : ℕ} where
-  pub larger-term : (s n : ℕ) → r ≡ keep (eqb (key i) c && ltb 0 (size i) && precedes s (size i) (number i) n) 1 → r ≡ larger key size number c s n i
+  pub larger-term : (s n : ℕ) → r ≡ largerOf (key i) (size i) (number i) c s n → r ≡ larger key size number c s n i
   unfolding larger
   larger-term s n e = e
 

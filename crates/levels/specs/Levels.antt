@@ -7,16 +7,16 @@ use Rattle.units.specs.Picked.{keep, precedes}
 use Rattle.units.specs.Leasts.{leastTo}
 use Rattle.rows.specs.Rows.{keyOf, openSize}
 
--- above every order number
-abbrev pub noNumber : ℕ
-noNumber = 4294967296
-
 -- the rows' keys on a side, and what of each row may be traded by an order that trades with that side within a bound
 abbrev pub keysOn : ℕ → (ℕ → ℕ) → ℕ → ℕ
 keysOn s price i = keyOf s (price i)
 
 abbrev pub opensOn : ℕ → ℕ → (ℕ → ℕ) → (ℕ → ℕ) → (ℕ → ℕ) → ℕ → ℕ
 opensOn s bound side price size i = openSize s bound (side i) (price i) (size i)
+
+-- what of a row may be traded so, if it stands at key c
+abbrev pub tradableAt : ℕ → ℕ → ℕ → ℕ → ℕ → ℕ → ℕ
+tradableAt s bound c side price size = keep (eqb (keyOf s price) c) (openSize s bound side price size)
 
 -- a key at which something rests, from the floor on; else the top, past every key
 unfoldable pub candidate : ℕ → ℕ → ℕ → ℕ → ℕ
@@ -34,5 +34,8 @@ abbrev pub wholes : ℕ → ℕ → (ℕ → ℕ) → ℕ → ℕ
 wholes left total size i = wholeOf left (size i) total
 
 -- 1 for a row at key c that is larger than s, or of size s and earlier than n
+abbrev pub largerOf : ℕ → ℕ → ℕ → ℕ → ℕ → ℕ → ℕ
+largerOf k size number c s n = keep (eqb k c && ltb 0 size && precedes s size number n) 1
+
 unfoldable pub larger : (ℕ → ℕ) → (ℕ → ℕ) → (ℕ → ℕ) → ℕ → ℕ → ℕ → ℕ → ℕ
-larger key size number c s n i = keep (eqb (key i) c && ltb 0 (size i) && precedes s (size i) (number i) n) 1
+larger key size number c s n i = largerOf (key i) (size i) (number i) c s n

@@ -2,37 +2,35 @@
 use crate::row::candidate;
 use crate::row::held_at;
 use crate::row::larger;
-use crate::row::nearer;
 use crate::row::whole;
 use rows::Column;
-use rows::NO_PRICE;
+use rows::NO_KEY;
+use rows::NO_NUMBER;
 use rows::ROWS;
 use rows::row::key;
+use rows::row::lesser_wide;
 use rows::row::open_size;
 use rows::row::wide;
 ghost use mathlib.Core.Path.{_≡_};
-ghost use mathlib.Core.Bool.{_&&_};
-ghost use lib.Dec.{ltb, eqb};
+ghost use lib.Dec.{eqb};
 ghost use Rattle.units.specs.Sums.{sumTo};
-ghost use Rattle.units.specs.Picked.{keep, same, precedes};
-ghost use Rattle.units.specs.Places.{at};
-ghost use Rattle.rows.specs.Rows.{rows, noPrice, keyOf, openSize};
-ghost use Rattle.levels.specs.Levels.{noNumber, keysOn, opensOn, candidate, bestFrom, wholeOf, wholes, larger};
-
-// Above every order number.
-const NO_NUMBER: u64 = 4294967296;
+ghost use Rattle.units.specs.Picked.{keep, same};
+ghost use Rattle.units.specs.Lent.{found};
+ghost use Rattle.rows.specs.Rows.{rows, noPrice, noNumber, keyOf, openSize};
+ghost use Rattle.levels.specs.Levels.{tradableAt, candidate, bestFrom, wholeOf, wholes, largerOf};
+ghost use Rattle.levels.specs.Lent.{keysIn, opensIn, levelIn, rankIn};
 
 // A row's key, if something of it may be traded and it is not below the floor; else past every key.
 fn key_from(side: u32, bound: u32, floor: u64, row_side: u32, price: u32, size: u32) -> u64
     ensures { λ r. ⌜ r ≡ candidate noPrice floor (keyOf side price) (openSize side bound «row_side» price size) ⌝ }
 {
     let tradable = open_size(side, bound, row_side, price, size);
-    candidate(wide(NO_PRICE), floor, wide(key(side, price)), tradable)
+    candidate(NO_KEY, floor, wide(key(side, price)), tradable)
 }
 
 // What may be traded of a row, if it stands at key c.
-fn open_at(side: u32, bound: u32, c: u64, row_side: u32, price: u32, size: u32) -> u32
-    ensures { λ r. ⌜ r ≡ keep (eqb (keyOf side price) c) (openSize side bound «row_side» price size) ⌝ }
+fn tradable_at(side: u32, bound: u32, c: u64, row_side: u32, price: u32, size: u32) -> u32
+    ensures { λ r. ⌜ r ≡ tradableAt side bound c «row_side» price size ⌝ }
 {
     held_at(
         wide(key(side, price)),
@@ -53,9 +51,9 @@ fn number_from(
     size: u32,
     number: u32,
 ) -> u64
-    ensures { λ r. ⌜ r ≡ candidate noNumber floor number (keep (eqb (keyOf side price) c) (openSize side bound «row_side» price size)) ⌝ }
+    ensures { λ r. ⌜ r ≡ candidate noNumber floor number (tradableAt side bound c «row_side» price size) ⌝ }
 {
-    let tradable = open_at(side, bound, c, row_side, price, size);
+    let tradable = tradable_at(side, bound, c, row_side, price, size);
     candidate(NO_NUMBER, floor, wide(number), tradable)
 }
 
@@ -70,9 +68,9 @@ fn open_of(
     size: u32,
     number: u32,
 ) -> u32
-    ensures { λ r. ⌜ r ≡ keep (eqb number n) (keep (eqb (keyOf side price) c) (openSize side bound «row_side» price size)) ⌝ }
+    ensures { λ r. ⌜ r ≡ keep (eqb number n) (tradableAt side bound c «row_side» price size) ⌝ }
 {
-    let tradable = open_at(side, bound, c, row_side, price, size);
+    let tradable = tradable_at(side, bound, c, row_side, price, size);
     held_at(wide(number), tradable, n)
 }
 
@@ -88,7 +86,7 @@ fn first_over(
     size: u32,
     number: u32,
 ) -> u32
-    ensures { λ r. ⌜ r ≡ keep (eqb (keyOf side price) c && ltb 0 (openSize side bound «row_side» price size) && precedes s (openSize side bound «row_side» price size) number n) 1 ⌝ }
+    ensures { λ r. ⌜ r ≡ largerOf (keyOf side price) (openSize side bound «row_side» price size) number c s n ⌝ }
 {
     let tradable = open_size(side, bound, row_side, price, size);
     larger(wide(key(side, price)), tradable, number, c, s, n)
@@ -120,12 +118,12 @@ pub fn best_from(
     prices: &Column,
     sizes: &Column,
 ) -> u64
-    ensures { λ r. ⌜ r ≡ bestFrom rows noPrice (keysOn side (at (now (prices .entry)))) (opensOn side bound (at (now (sides .entry))) (at (now (prices .entry))) (at (now (sizes .entry)))) floor ⌝ }
+    ensures { λ r. ⌜ r ≡ bestFrom rows noPrice (keysIn side prices) (opensIn side bound sides prices sizes) floor ⌝ }
 {
-    let mut least: u64 = wide(NO_PRICE);
+    let mut least: u64 = NO_KEY;
     let mut i: usize = 0;
     while i < ROWS {
-        least = nearer(
+        least = lesser_wide(
             least,
             key_from(side, bound, floor, sides[i], prices[i], sizes[i]),
         );
@@ -136,12 +134,12 @@ pub fn best_from(
 
 // What may be traded at key c.
 pub fn level(side: u32, bound: u32, c: u64, sides: &Column, prices: &Column, sizes: &Column) -> u64
-    ensures { λ r. ⌜ r ≡ sumTo (same (keysOn side (at (now (prices .entry)))) c (opensOn side bound (at (now (sides .entry))) (at (now (prices .entry))) (at (now (sizes .entry))))) rows ⌝ }
+    ensures { λ r. ⌜ r ≡ sumTo (levelIn side bound c sides prices sizes) rows ⌝ }
 {
     let mut sum: u64 = 0;
     let mut i: usize = 0;
     while i < ROWS {
-        sum += wide(open_at(side, bound, c, sides[i], prices[i], sizes[i]));
+        sum += wide(tradable_at(side, bound, c, sides[i], prices[i], sizes[i]));
         i += 1;
     }
     sum
@@ -158,12 +156,12 @@ pub fn next_from(
     sizes: &Column,
     numbers: &Column,
 ) -> u64
-    ensures { λ r. ⌜ r ≡ bestFrom rows noNumber (at (now (numbers .entry))) (same (keysOn side (at (now (prices .entry)))) c (opensOn side bound (at (now (sides .entry))) (at (now (prices .entry))) (at (now (sizes .entry))))) floor ⌝ }
+    ensures { λ r. ⌜ r ≡ bestFrom rows noNumber (found numbers) (levelIn side bound c sides prices sizes) floor ⌝ }
 {
     let mut least: u64 = NO_NUMBER;
     let mut i: usize = 0;
     while i < ROWS {
-        least = nearer(
+        least = lesser_wide(
             least,
             number_from(
                 side,
@@ -192,7 +190,7 @@ pub fn held_by(
     sizes: &Column,
     numbers: &Column,
 ) -> u64
-    ensures { λ r. ⌜ r ≡ sumTo (same (at (now (numbers .entry))) n (same (keysOn side (at (now (prices .entry)))) c (opensOn side bound (at (now (sides .entry))) (at (now (prices .entry))) (at (now (sizes .entry)))))) rows ⌝ }
+    ensures { λ r. ⌜ r ≡ sumTo (same (found numbers) n (levelIn side bound c sides prices sizes)) rows ⌝ }
 {
     let mut sum: u64 = 0;
     let mut i: usize = 0;
@@ -214,7 +212,7 @@ pub fn whole_parts(
     prices: &Column,
     sizes: &Column,
 ) -> u64
-    ensures { λ r. ⌜ r ≡ sumTo (same (keysOn side (at (now (prices .entry)))) c (wholes left total (opensOn side bound (at (now (sides .entry))) (at (now (prices .entry))) (at (now (sizes .entry)))))) rows ⌝ }
+    ensures { λ r. ⌜ r ≡ sumTo (same (keysIn side prices) c (wholes left total (opensIn side bound sides prices sizes))) rows ⌝ }
 {
     let mut sum: u64 = 0;
     let mut i: usize = 0;
@@ -237,7 +235,7 @@ pub fn rank(
     sizes: &Column,
     numbers: &Column,
 ) -> u64
-    ensures { λ r. ⌜ r ≡ sumTo (larger (keysOn side (at (now (prices .entry)))) (opensOn side bound (at (now (sides .entry))) (at (now (prices .entry))) (at (now (sizes .entry)))) (at (now (numbers .entry))) c s n) rows ⌝ }
+    ensures { λ r. ⌜ r ≡ rankIn side bound c s n sides prices sizes numbers ⌝ }
 {
     let mut count: u64 = 0;
     let mut i: usize = 0;

@@ -2,18 +2,9 @@
 use rows::row::one;
 use rows::row::wide;
 ghost use mathlib.Core.Path.{_≡_};
-ghost use mathlib.Core.Bool.{_&&_};
-ghost use Prim.Native.Nat.{min};
-ghost use lib.Dec.{ltb, eqb};
+ghost use lib.Dec.{eqb};
 ghost use Rattle.units.specs.Picked.{keep, precedes};
-ghost use Rattle.levels.specs.Levels.{candidate, wholeOf};
-
-// The lesser of two wider numbers.
-pub(crate) fn nearer(a: u64, b: u64) -> u64
-    ensures { λ r. ⌜ r ≡ min a b ⌝ }
-{
-    if a < b { a } else { b }
-}
+ghost use Rattle.levels.specs.Levels.{candidate, wholeOf, largerOf};
 
 // a comes before b; or they are the same, and n comes before m.
 pub fn precedes(a: u64, b: u64, n: u32, m: u32) -> bool
@@ -61,7 +52,7 @@ pub fn whole(left: u32, size: u32, total: u64) -> u32
 
 // 1 for a row at key c that is larger than s, or of size s and earlier than n.
 pub(crate) fn larger(k: u64, size: u32, number: u32, c: u64, s: u32, n: u32) -> u32
-    ensures { λ r. ⌜ r ≡ keep (eqb k c && ltb 0 size && precedes s size number n) 1 ⌝ }
+    ensures { λ r. ⌜ r ≡ largerOf k size number c s n ⌝ }
 {
     if k == c {
         if 0 < size {

@@ -16,14 +16,14 @@ use Rattle.units.specs.Places.{at, table-at}
 use Rattle.rows.specs.Rows.{rows}
 use Rattle.book.specs.Book.{Book, sizeAt, ownerAt, numberAt}
 use Rattle.book.specs.Sound.{SoundBook}
+use Rattle.book.specs.SoundLaws.{live-apart}
 use Rattle.book.specs.Allocation.{Resting}
 use Rattle.book.specs.AllocationLaws.{Distinct}
-use Rattle.book.specs.Records.{records, recorded, fieldOf, written}
+use Rattle.book.specs.Records.{records, recorded, fieldOf, written, fields}
 use Rattle.book.specs.RecordLaws.{traded-in, traded-out, pos-onto, records-most, recorded-at, sum-recorded}
 use Rattle.book.specs.RecordSums.{quantityIn, written-at}
-use Rattle.book.specs.Opening.{matched, matchedRows, afterFills, buyGoes, sellGoes, afterOpening, openingRecords, openingWritten}
-use Rattle.book.specs.Opening.{gone as cancelled}
-use Rattle.book.specs.OpeningLaws.{matched-most, left-is, matched-apart}
+use Rattle.opening.specs.Opening.{matched, matchedRows, afterFills, buyGoes, sellGoes, afterOpening, openingRecords, openingWritten, gone as cancelled}
+use Rattle.opening.specs.OpeningLaws.{matched-most, left-is, matched-apart}
 use Rattle.lines.specs.Lines.{numberIn}
 use Rattle.lines.specs.Gone.{filledOf, goneOrder, goneOf}
 use Rattle.lines.specs.GoneLaws.{gone-free, gone-cancelled, gone-filled, gone-rests}
@@ -37,7 +37,7 @@ module _ (r : Resting) (owner price : ℕ → ℕ) (was : List ℕ) (d : Distinc
 
   number-at : (q : ℕ) → q < records r → numberIn lent q ≡ recorded r number q
   unfolding fieldOf
-  number-at q h = let e : 4 * q ≡ 4 * q + 0 = omega arith in rw e (written-at r owner price was q 0 h (omega arith))
+  number-at q h = let e : fields * q ≡ fields * q + 0 = omega arith in rw e (written-at r owner price was q 0 h (omega arith))
 
   quantity-at : (q : ℕ) → q < records r → quantityIn lent q ≡ recorded r size q
   unfolding fieldOf
@@ -59,9 +59,6 @@ module _ (r : Resting) (owner price : ℕ → ℕ) (was : List ℕ) (d : Distinc
   ])
 
 module _ (b : Book) (next p : ℕ) (sound : SoundBook b next) (was : List ℕ) where
-  apart : (i j : ℕ) → i < b .places → j < b .places → 0 < sizeAt b i → 0 < sizeAt b j → numberAt b i ≡ numberAt b j → i ≡ j
-  apart i j h k = sound .apart i j (rw (sound .places) at h) (rw (sound .places) at k)
-
   -- the contracts of a resting order in the opening's records are what it traded
   pub filled-is : (i : ℕ) → i < rows → 0 < sizeAt b i → filledOf (openingWritten b p was) (openingRecords b p) (numberAt b i) ≡ matched b p i
   unfolding filledOf openingWritten openingRecords
@@ -69,14 +66,14 @@ module _ (b : Book) (next p : ℕ) (sound : SoundBook b next) (was : List ℕ) w
       let few : records (matchedRows b p) ≤ rows = omega (arith, records-most (matchedRows b p), sound .places) in
       let inside : i < b .places = rw (sound .places) h in
       rw (min-eq-left few)
-      (order-records (matchedRows b p) (ownerAt b) (λ _. p) was (matched-apart b p apart) (numberAt b i)
+      (order-records (matchedRows b p) (ownerAt b) (λ _. p) was (matched-apart b p (live-apart sound)) (numberAt b i)
       ∙ (sum-only (same (numberAt b) (numberAt b i) (matched b p)) (b .places) i inside others
       ∙ same-in (numberAt b) (numberAt b i) (matched b p) i refl))
     where
       others : (j : ℕ) → j < b .places → j ≢ i → same (numberAt b) (numberAt b i) (matched b p) j ≡ 0
       others j k n = elim (ℕ-discrete (numberAt b j) (numberAt b i)) [
         | yes e ↦ elim (order 0 (sizeAt b j)) [
-          | less y ↦ absurd (n (apart j i k (rw (sound .places) h) y x e))
+          | less y ↦ absurd (n (live-apart sound j i k (rw (sound .places) h) y x e))
           | equal y ↦ omega (arith, same-most (numberAt b) (numberAt b i) (matched b p) j, matched-most b p j)
           | more y ↦ omega arith
         ]

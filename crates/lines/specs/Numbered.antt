@@ -4,6 +4,7 @@ use mathlib.Core.List.{List}
 use Prim.Native.Nat.{ℕ, _+_, _/_, _%_, _≤_, _<_}
 use native.Mathlib.Omega.{arith}
 use lib.ListN.{length, set, length-append, length-set}
+use Rattle.units.specs.Units.{most32}
 use Rattle.lines.specs.Decimal.{digit, decimal}
 use Rattle.lines.specs.DecimalLaws.{decimal-low, decimal-high, decimal-most}
 use Rattle.lines.specs.Laying.{output, Room, Laid, laid-then, laid-within, one-laid}
@@ -35,7 +36,7 @@ module _ (was : List ℕ) (start n : ℕ) where
       laid-within was start enough (laid-then was start (one-laid was start 32 long) a)
 
 -- a number of 32 bits has at most ten digits, and one of 64 bits at most twenty
-pub digits-most-32 : (n : ℕ) → n < 4294967296 → length (decimal n) ≤ 10
+pub digits-most-32 : (n : ℕ) → n ≤ most32 → length (decimal n) ≤ 10
 digits-most-32 n h = decimal-most 9 n (omega arith)
 
 pub digits-most-64 : (n : ℕ) → n < 18446744073709551616 → length (decimal n) ≤ 20

@@ -10,7 +10,9 @@ use rows::ROWS;
 ghost use mathlib.Core.List.{_++_};
 ghost use Prim.Native.Nat.{_≤_};
 ghost use lib.ListN.{length};
-ghost use Rattle.lines.specs.Lines.{newline as Lines·newline, spaced, setLine, awayLine, submitLine, turnLine, refusedLine, openLine, fillLine, recordLine, goneLine, tapeLine, endLine};
+ghost use Rattle.lines.specs.Lines.{newline as Lines·newline, spaced};
+ghost use Rattle.lines.specs.Lines.{setLine, awayLine, submitLine, turnLine, refusedLine};
+ghost use Rattle.lines.specs.Lines.{openLine, fillLine, recordLine, goneLine, tapeLine, endLine};
 ghost use Rattle.lines.specs.Laying.{longest, longestWord, Room, Laid};
 
 // A word and one number.

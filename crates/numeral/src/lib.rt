@@ -16,8 +16,8 @@ pub const PADDED: u32 = 31;
 
 pub const TOO_LARGE: u32 = 32;
 
-// The most groups that a number has.
-const GROUPS: u32 = 5;
+// The most groups that a number has, each a byte.
+pub const GROUPS: u32 = 5;
 
 // 128 times this is just past 4,294,967,295.
 const PAST: u32 = 33554432;

@@ -2,7 +2,7 @@
 use Prim.Native.Nat.{ℕ}
 use Rattle.units.specs.Units.{contracts}
 use Rattle.book.specs.Book.{Book}
-use Rattle.book.specs.Opening.{volume, openingRecords}
+use Rattle.opening.specs.Opening.{volume, openingRecords}
 use Rattle.opening.specs.declared.matching.Matched.{Matched}
 
 -- the volume, and how many records were written

@@ -6,35 +6,34 @@ use native.Mathlib.Decide.{ℕ-discrete}
 use native.Mathlib.Omega.{arith}
 use lib.ListN.{length, replicate, getD-replicate}
 use Rattle.units.specs.Sums.{sum-le}
-use Rattle.units.specs.Units.{contracts}
+use Rattle.units.specs.Units.{contracts, most32}
 use Rattle.units.specs.Places.{at, table, table-is, table-at, table-length, table-same}
-use Rattle.rows.specs.Rows.{rows, openSize}
-use Rattle.rows.specs.Passes.{standing}
-use Rattle.margin.specs.Ranges.{Small}
-use Rattle.margin.specs.RangeLaws.{open-most}
+use Rattle.rows.specs.Rows.{rows, largest, openSize}
+use Rattle.rows.specs.Passes.{restingWithin}
+use Rattle.allocation.specs.Ranges.{Small}
+use Rattle.allocation.specs.RangeLaws.{open-most}
 use Rattle.book.specs.Book.{Book, bookOf, sideAt}
 use Rattle.book.specs.Allocation.{time, fill}
 use Rattle.book.specs.AllocationLaws.{Distinct}
 use Rattle.book.specs.Records.{records, written}
 use Rattle.book.specs.Trading.{reach}
-use Rattle.book.specs.Opening.{volume, bought, sold, matched, afterFills, buyGoes, sellGoes, afterOpening, openingRecords, openingWritten}
-use Rattle.book.specs.OpeningLaws.{bought-other, sold-other, matched-most}
 use Rattle.book.specs.Recording.{sortKeys, took}
 use Rattle.book.specs.SameRecords.{records-same, written-same}
 use Rattle.book.specs.Fit.{Fit}
-use Rattle.opening.specs.Cancels.{buyCut, sellCut, keptBy, cutOf}
+use Rattle.opening.specs.Opening.{volume, fillsOn, bought, sold, matched, afterFills, buyGoes, sellGoes, afterOpening, openingRecords, openingWritten, bothFill, buyCut, sellCut, keptBy, keptOf}
+use Rattle.opening.specs.OpeningLaws.{fills-other, matched-most}
 use Rattle.opening.specs.Answers.{matchedOf}
 use Rattle.opening.specs.declared.matching.Matched.{Matched}
 
 -- what may trade of rows that hold no more than orders may
-standing-small : (s p : ℕ) (sides prices sizes : List ℕ) → Small sizes → standing rows (at sides) (at prices) (at sizes) s p ≤ 215999784
-unfolding standing
-standing-small s p sides prices sizes small =
-    sum-le (λ i. openSize s p (at sides i) (at prices i) (at sizes i)) 999999 rows (λ i h. omega (arith, open-most s p (at sides i) (at prices i) (at sizes i), small i h))
+within-small : (s p : ℕ) (sides prices sizes : List ℕ) → Small sizes → restingWithin rows (at sides) (at prices) (at sizes) s p ≤ 215999784
+unfolding restingWithin
+within-small s p sides prices sizes small =
+    sum-le (λ i. openSize s p (at sides i) (at prices i) (at sizes i)) largest rows (λ i h. omega (arith, open-most s p (at sides i) (at prices i) (at sizes i), small i h))
 
 pub volume-fits : (p : ℕ) (sides prices sizes : List ℕ) (buys sells : ℕ) → Small sizes
-    → buys ≡ standing rows (at sides) (at prices) (at sizes) 1 p → min buys sells ≤ 4294967295
-volume-fits p sides prices sizes buys sells small e = omega (arith, standing-small 1 p sides prices sizes small)
+    → buys ≡ restingWithin rows (at sides) (at prices) (at sizes) 1 p → min buys sells ≤ most32
+volume-fits p sides prices sizes buys sells small e = omega (arith, within-small 1 p sides prices sizes small)
 
 pub table-long : (f : ℕ → ℕ) (l : List ℕ) → l ≡ table f rows → length l ≡ rows
 table-long f l e = rw e (table-length f rows)
@@ -43,32 +42,24 @@ module _ (sides prices sizes owners numbers : List ℕ) (fit : Fit prices sizes 
   abbrev b : Book
   b = bookOf sides prices sizes owners numbers
 
-  module _ (q buys sells : ℕ) (least : q ≡ min buys sells) (may-buy : buys ≡ standing rows (at sides) (at prices) (at sizes) 1 p)
-      (may-sell : sells ≡ standing rows (at sides) (at prices) (at sizes) 2 p) where
+  module _ (q buys sells : ℕ) (least : q ≡ min buys sells) (may-buy : buys ≡ restingWithin rows (at sides) (at prices) (at sizes) 1 p)
+      (may-sell : sells ≡ restingWithin rows (at sides) (at prices) (at sizes) 2 p) where
     volume-is : q ≡ volume b p
     unfolding volume
     volume-is = rw (may-buy, may-sell) at least
 
-    abbrev fills-of : ℕ → ℕ → ℕ
-    fills-of s = fill (reach (bookOf sides prices sizes [] numbers) s p) q time
+    fills-are : (side i : ℕ) → fill (reach b side p) q time i ≡ fillsOn b p side i
+    fills-are side i = ap (λ v. fill (reach b side p) v time i) volume-is
 
-    bought-is : (i : ℕ) → fills-of 1 i ≡ bought b p i
-    unfolding bought
-    bought-is i = ap (λ v. fill (reach b 1 p) v time i) volume-is
-
-    sold-is : (i : ℕ) → fills-of 2 i ≡ sold b p i
-    unfolding sold
-    sold-is i = ap (λ v. fill (reach b 2 p) v time i) volume-is
-
-    module _ (qs : List ℕ) (are : qs ≡ table (λ i. max (fills-of 1 i) (fills-of 2 i)) rows) where
+    module _ (qs : List ℕ) (are : qs ≡ table (bothFill (bookOf sides prices sizes [] numbers) p q) rows) where
       -- a row trades on one side only
       quantity-is : (i : ℕ) → i < rows → at qs i ≡ matched b p i
-      unfolding matched
+      unfolding matched bought sold
       quantity-is i h =
-          let here : at qs i ≡ max (fills-of 1 i) (fills-of 2 i) = rw are (table-at (λ j. max (fills-of 1 j) (fills-of 2 j)) rows i h) in
+          let here : at qs i ≡ bothFill b p q i = rw are (table-at (bothFill b p q) rows i h) in
           elim (ℕ-discrete (sideAt b i) 1) [
-            | yes e ↦ omega (arith, bought-is i, sold-is i, sold-other b p i (omega arith))
-            | no e ↦ omega (arith, bought-is i, sold-is i, bought-other b p i e)
+            | yes e ↦ omega (arith, fills-are 1 i, fills-are 2 i, fills-other b p 2 i (omega arith))
+            | no e ↦ omega (arith, fills-are 1 i, fills-are 2 i, fills-other b p 1 i e)
           ]
 
       pub opening-apart : Distinct (took sides prices qs numbers)
@@ -96,7 +87,7 @@ module _ (sides prices sizes owners numbers : List ℕ) (fit : Fit prices sizes 
         fills-leave : l ≡ table (λ i. at sizes i - matched b p i) rows
         fills-leave = left ∙ table-same rows (λ i h. ap (λ x. at sizes i - x) (quantity-is i h))
 
-        pub opening-leaves : (m : List ℕ) → m ≡ table (λ i. keptBy (cutOf rows (at sides) (at prices) (at l) p) (at sides i) (at prices i) (at l i)) rows
+        pub opening-leaves : (m : List ℕ) → m ≡ table (keptOf rows (at sides) (at prices) (at l) p) rows
             → bookOf sides prices m owners numbers ≡ afterOpening b p
         unfolding afterOpening afterFills buyGoes sellGoes keptBy buyCut sellCut
         opening-leaves m e = ap (λ z. bookOf sides prices z owners numbers) (rw fills-leave at e)

@@ -5,12 +5,13 @@ use rows::ROWS;
 use rows::SELL;
 use rows::passes::highest_buy;
 use rows::passes::lowest_sell;
-use rows::passes::standing;
+use rows::passes::resting_within;
 ghost use mathlib.Core.Path.{_≡_};
 ghost use lib.ListN.{length};
-ghost use Rattle.units.specs.Places.{at, table};
-ghost use Rattle.rows.specs.Rows.{rows};
-ghost use Rattle.opening.specs.Cancels.{buyCut, sellCut, keptBy, cutOf};
+ghost use Rattle.units.specs.Lent.{found};
+ghost use Rattle.units.specs.Places.{table};
+ghost use Rattle.rows.specs.Rows.{rows, highest};
+ghost use Rattle.opening.specs.Opening.{buyCut, sellCut, keptBy, cutOf, keptOf};
 
 // Which rows are cancelled: buys from the lowest sell up, if buys remain that might have traded; sells from the highest
 // buy down, if such sells do.
@@ -22,10 +23,10 @@ pub struct Cut {
 }
 
 fn cut_at(price: u32, sides: &Column, prices: &Column, sizes: &Column) -> Cut
-    ensures { λ r. ⌜ r ≡ cutOf rows (at (now (sides .entry))) (at (now (prices .entry))) (at (now (sizes .entry))) price ⌝ }
+    ensures { λ r. ⌜ r ≡ cutOf rows (found sides) (found prices) (found sizes) price ⌝ }
 {
-    let buys = standing(BUY, price, sides, prices, sizes);
-    let sells = standing(SELL, price, sides, prices, sizes);
+    let buys = resting_within(BUY, price, sides, prices, sizes);
+    let sells = resting_within(SELL, price, sides, prices, sizes);
     let low = lowest_sell(sides, prices, sizes);
     let high = highest_buy(sides, prices, sizes);
     Cut {
@@ -78,7 +79,7 @@ fn kept(cut: Cut, side: u32, price: u32, size: u32) -> u32
 // Cancels what would lock or cross the open book.
 pub(crate) fn cancel(price: u32, sides: &Column, prices: &Column, sizes: &mut Column)
     requires { ⌜ length (now sizes) ≡ rows ⌝ }
-    ensures { λ _. ⌜ now (sizes .exit) ≡ table (λ i. keptBy (cutOf rows (at (now (sides .entry))) (at (now (prices .entry))) (at (now (sizes .entry))) price) (at (now (sides .entry)) i) (at (now (prices .entry)) i) (at (now (sizes .entry)) i)) rows ⌝ }
+    ensures { λ _. ⌜ now (sizes .exit) ≡ table (keptOf rows (found sides) (found prices) (found sizes) price) rows ⌝ }
 {
     let cut = cut_at(price, sides, prices, sizes);
     let mut i: usize = 0;

@@ -9,22 +9,23 @@ use rows::BUY;
 use rows::Column;
 use rows::ROWS;
 use rows::SELL;
-use rows::passes::standing;
+use rows::passes::resting_within;
 use rows::row::greater;
+use rows::row::lesser_wide;
 use units::Cents;
 use units::Contracts;
 ghost use mathlib.Core.Path.{_≡_};
-ghost use mathlib.Core.List.{[]};
 ghost use Prim.Native.Nat.{_*_, _≤_, min, max};
 ghost use lib.ListN.{length};
+ghost use Rattle.units.specs.Lent.{found};
 ghost use Rattle.units.specs.Places.{at, table};
+ghost use Rattle.units.specs.Units.{most32};
 ghost use Rattle.rows.specs.Rows.{rows};
-ghost use Rattle.rows.specs.Passes.{standing};
-ghost use Rattle.book.specs.Book.{bookOf};
-ghost use Rattle.book.specs.Allocation.{time, fill};
-ghost use Rattle.book.specs.Trading.{reach};
-ghost use Rattle.book.specs.Opening.{matched, afterOpening, openingWritten};
+ghost use Rattle.rows.specs.Passes.{restingWithin};
+ghost use Rattle.book.specs.Lent.{before, after, ownerless};
 ghost use Rattle.book.specs.Fit.{Fit};
+ghost use Rattle.book.specs.Records.{fields};
+ghost use Rattle.opening.specs.Opening.{bothFill, matched, afterOpening, openingWritten};
 ghost use Rattle.opening.specs.Answers.{matchedOf};
 
 // Contracts matched, and how many records were written.
@@ -35,7 +36,7 @@ pub struct Matched {
 
 // Row by row the greater of two, where one of them is 0.
 fn join(a: &Column, b: &Column) -> Column
-    ensures { λ r. ⌜ r ≡ table (λ i. max (at (now (a .entry)) i) (at (now (b .entry)) i)) rows ⌝ }
+    ensures { λ r. ⌜ r ≡ table (λ i. max (found a i) (found b i)) rows ⌝ }
 {
     let mut out = [0u32; 216];
     let mut i: usize = 0;
@@ -48,14 +49,10 @@ fn join(a: &Column, b: &Column) -> Column
 
 // The lesser of what may be bought and what may be sold.
 fn lesser_of(buys: u64, sells: u64) -> u32
-    requires { ⌜ min buys sells ≤ 4294967295 ⌝ }
+    requires { ⌜ min buys sells ≤ most32 ⌝ }
     ensures { λ r. ⌜ r ≡ min buys sells ⌝ }
 {
-    if buys < sells {
-        buys as u32
-    } else {
-        sells as u32
-    }
+    lesser_wide(buys, sells) as u32
 }
 
 // What each row trades where both sides fill q contracts, by time in every class.
@@ -70,9 +67,9 @@ fn fills_at(
     numbers: &Column,
 ) -> Column
     requires { ⌜ Fit (now prices) (now sizes) (now numbers) ⌝ }
-    requires { ⌜ buys ≡ standing rows (at (now sides)) (at (now prices)) (at (now sizes)) 1 price ⌝ }
-    requires { ⌜ sells ≡ standing rows (at (now sides)) (at (now prices)) (at (now sizes)) 2 price ⌝ }
-    ensures { λ r. ⌜ r ≡ table (λ i. max (fill (reach (bookOf (now (sides .entry)) (now (prices .entry)) (now (sizes .entry)) [] (now (numbers .entry))) 1 price) q time i) (fill (reach (bookOf (now (sides .entry)) (now (prices .entry)) (now (sizes .entry)) [] (now (numbers .entry))) 2 price) q time i)) rows ⌝ }
+    requires { ⌜ buys ≡ restingWithin rows (at (now sides)) (at (now prices)) (at (now sizes)) 1 price ⌝ }
+    requires { ⌜ sells ≡ restingWithin rows (at (now sides)) (at (now prices)) (at (now sizes)) 2 price ⌝ }
+    ensures { λ r. ⌜ r ≡ table (bothFill (ownerless sides prices sizes numbers) price q) rows ⌝ }
 {
     let bought = shares(TIME, BUY, price, q, buys, sides, prices, sizes, numbers);
     let sold = shares(TIME, SELL, price, q, sells, sides, prices, sizes, numbers);
@@ -92,14 +89,14 @@ pub fn open_at(
     lent: &mut Records,
 ) -> Matched
     requires { ⌜ Fit (now prices) (now sizes) (now numbers) ⌝ }
-    requires { ⌜ length (now lent) ≡ 4 * rows ⌝ }
-    ensures { λ _. ⌜ bookOf (now (sides .entry)) (now (prices .entry)) (now (sizes .exit)) (now (owners .entry)) (now (numbers .entry)) ≡ afterOpening (bookOf (now (sides .entry)) (now (prices .entry)) (now (sizes .entry)) (now (owners .entry)) (now (numbers .entry))) (price .0) ⌝ }
-    ensures { λ _. ⌜ now (lent .exit) ≡ openingWritten (bookOf (now (sides .entry)) (now (prices .entry)) (now (sizes .entry)) (now (owners .entry)) (now (numbers .entry))) (price .0) (now (lent .entry)) ⌝ }
-    ensures { λ _. ⌜ now (shared .exit) ≡ table (matched (bookOf (now (sides .entry)) (now (prices .entry)) (now (sizes .entry)) (now (owners .entry)) (now (numbers .entry))) (price .0)) rows ⌝ }
-    ensures { λ r. ⌜ r ≡ matchedOf (bookOf (now (sides .entry)) (now (prices .entry)) (now (sizes .entry)) (now (owners .entry)) (now (numbers .entry))) (price .0) ⌝ }
+    requires { ⌜ length (now lent) ≡ fields * rows ⌝ }
+    ensures { λ _. ⌜ after sides prices sizes owners numbers ≡ afterOpening (before sides prices sizes owners numbers) (price .0) ⌝ }
+    ensures { λ _. ⌜ now (lent .exit) ≡ openingWritten (before sides prices sizes owners numbers) (price .0) (now (lent .entry)) ⌝ }
+    ensures { λ _. ⌜ now (shared .exit) ≡ table (matched (before sides prices sizes owners numbers) (price .0)) rows ⌝ }
+    ensures { λ r. ⌜ r ≡ matchedOf (before sides prices sizes owners numbers) (price .0) ⌝ }
 {
-    let buys = standing(BUY, price.0, sides, prices, sizes);
-    let sells = standing(SELL, price.0, sides, prices, sizes);
+    let buys = resting_within(BUY, price.0, sides, prices, sizes);
+    let sells = resting_within(SELL, price.0, sides, prices, sizes);
     let q = lesser_of(buys, sells);
     let traded = fills_at(price.0, q, buys, sells, sides, prices, sizes, numbers);
     let paid = [price.0; 216];

@@ -10,6 +10,7 @@ use lib.Dec.{leb, leb·suc-suc}
 use lib.ListN.{length, getD, drop}
 use lib.Seq.{drop-cons}
 use Rattle.units.specs.Tests.{order, less, equal, more}
+use Rattle.units.specs.Units.{most32}
 use Rattle.price.specs.Amounts.{minimumAmount}
 use Rattle.price.specs.declared.amounts.Row.{Row}
 
@@ -18,7 +19,7 @@ row ceiling amount = record { ceiling = ceiling; amount = amount }
 
 -- the table, with the last row's ceiling the largest number of 32 bits
 abbrev pub rows : List Row
-rows = row 199 25 ∷ row 500 40 ∷ row 1000 50 ∷ row 2000 80 ∷ row 5000 100 ∷ row 10000 150 ∷ row 4294967295 200 ∷ []
+rows = row 199 25 ∷ row 500 40 ∷ row 1000 50 ∷ row 2000 80 ∷ row 5000 100 ∷ row 10000 150 ∷ row most32 200 ∷ []
 
 -- the amount of the first row whose ceiling is not below the NBB
 abbrev pub lookup : List Row → ℕ → ℕ
@@ -33,21 +34,21 @@ module _ (rs : List Row) (i nbb : ℕ) (d : Row) (h : i < length rs) where
   lookup-passed lt = rw (drop-cons rs i d h, lt-leb nbb (getD rs i d .ceiling) lt, add-one)
 
 -- for every NBB of 32 bits the minimum amount is what the table gives
-pub lookup-minimum : (nbb : ℕ) → nbb ≤ 4294967295 → minimumAmount nbb ≡ lookup rows nbb
+pub lookup-minimum : (nbb : ℕ) → nbb ≤ most32 → minimumAmount nbb ≡ lookup rows nbb
 unfolding minimumAmount
-lookup-minimum nbb h = rw (le-leb nbb 4294967295 h, minimumAmount, leb·suc-suc nbb 199)
+lookup-minimum nbb h = rw (le-leb nbb most32 h, minimumAmount, leb·suc-suc nbb 199)
 
 -- no such NBB is above the last ceiling
-pub never-past : (i nbb : ℕ) (d : Row) → i < 7 → nbb ≤ 4294967295 → getD rows i d .ceiling < nbb → i + 1 < 7
+pub never-past : (i nbb : ℕ) (d : Row) → i < 7 → nbb ≤ most32 → getD rows i d .ceiling < nbb → i + 1 < 7
 never-past i nbb d h most lt = elim (order i 6) [
   | less l ↦ omega arith
-  | equal e ↦ absurd (let l : 4294967295 < nbb = rw e at lt in omega arith)
+  | equal e ↦ absurd (let l : most32 < nbb = rw e at lt in omega arith)
   | more l ↦ absurd (omega arith)
 ]
 
 -- the amounts at both ends of each row of the paper
 pub amounts-at-ends :
-    map minimumAmount (0 ∷ 199 ∷ 200 ∷ 500 ∷ 501 ∷ 1000 ∷ 1001 ∷ 2000 ∷ 2001 ∷ 5000 ∷ 5001 ∷ 10000 ∷ 10001 ∷ 4294967295 ∷ []) ≡
+    map minimumAmount (0 ∷ 199 ∷ 200 ∷ 500 ∷ 501 ∷ 1000 ∷ 1001 ∷ 2000 ∷ 2001 ∷ 5000 ∷ 5001 ∷ 10000 ∷ 10001 ∷ most32 ∷ []) ≡
     25 ∷ 25 ∷ 40 ∷ 40 ∷ 50 ∷ 50 ∷ 80 ∷ 80 ∷ 100 ∷ 100 ∷ 150 ∷ 150 ∷ 200 ∷ 200 ∷ []
 unfolding minimumAmount
 amounts-at-ends = refl

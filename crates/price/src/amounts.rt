@@ -1,4 +1,5 @@
 // The seven-row table of NBB ceilings and minimum amounts.
+use units::MOST_32;
 ghost use mathlib.Core.Path.{_≡_};
 ghost use Rattle.price.specs.Amounts.{minimumAmount};
 
@@ -34,7 +35,7 @@ const ROWS: [Row; 7] = [
         amount: 150,
     },
     Row {
-        ceiling: 4294967295,
+        ceiling: MOST_32,
         amount: 200,
     },
 ];

@@ -1,3 +1,2 @@
--- The window on the tape, and the program's loop.
-pub mod Window
+-- The program's loop.
 pub mod Rehearsing

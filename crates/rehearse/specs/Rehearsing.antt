@@ -1,27 +1,30 @@
 -- The program's loop: each turn reads the tape, writes what is printed, or takes one step along the tape.
 use mathlib.Core.Path.{_≡_, _∙_}
+use mathlib.Core.Bool.{Bool, false}
+use mathlib.Core.Logic.{_⊎_, inl, inr, ⊎-elim}
 use mathlib.Core.List.{List}
 use Prim.Native.Nat.{ℕ, _+_, _*_, _-_, _≤_, _<_}
 use native.Mathlib.Omega.{arith}
 use lib.ListN.{length, take}
 use lib.Seq.{length-take-le}
 use Rattle.rows.specs.Rows.{rows}
+use Rattle.book.specs.Records.{fields}
 use Rattle.lines.specs.Laying.{output}
+use Rattle.entry.specs.Numbers.{bulkNumbers}
+use Rattle.tape.specs.Depth.{mostBytes}
 use Rattle.session.specs.Market.{Market}
 use Rattle.session.specs.Sound.{Sound}
 use Rattle.replay.specs.declared.stepping.Reached.{Reached}
 use Rattle.replay.specs.Listing.{longestEvent}
 use Rattle.replay.specs.Replay.{CanReplay}
 use Rattle.replay.specs.Stepping.{Step, StepsTo}
-use Rattle.rehearse.specs.Window.{Refilled}
+use Rattle.window.specs.declared.Filled.{Filled}
+use Rattle.window.specs.Window.{isShort, Refilled}
+use Rattle.window.specs.WindowLaws.{enough}
 
 -- the bytes of the window
 abbrev pub windowLong : ℕ
 windowLong = 65536
-
--- the numbers of a bulk's entries: six for each of twenty
-abbrev pub givenLong : ℕ
-givenLong = 120
 
 -- a place of the tape is below this, whatever the turns that are left read
 abbrev pub farthest : ℕ
@@ -31,8 +34,8 @@ farthest = 9223372036854775808
 -- at hand in the window, and places of the tape cannot overflow in the turns that are left
 pub record Rehearsing (m : Market) (records given window out : List ℕ) (at from to base turns : ℕ) : Type 0 where
   pub sound : Sound m
-  pub records-long : length records ≡ 4 * rows
-  pub given-long : length given ≡ givenLong
+  pub records-long : length records ≡ fields * rows
+  pub given-long : length given ≡ bulkNumbers
   pub window-long : length window ≡ windowLong
   pub out-long : length out ≡ output
   pub printed : at ≤ output
@@ -45,8 +48,9 @@ fewer turns h = omega arith
 
 module _ {m : Market} {records given window out : List ℕ} {at from to base turns : ℕ} (r : Rehearsing m records given window out at from to base turns) where
   pub reads :
-      0 < turns → {next : List ℕ} {end first : ℕ} → Refilled window from to base next end first → Rehearsing m records given next out at 0 end first (turns - 1)
-  reads h {next} {end} {first} f = record {
+      0 < turns → {next : List ℕ} {filled : Filled} → Refilled window from to base next filled →
+      Rehearsing m records given next out at 0 (filled .to) (filled .base) (turns - 1)
+  reads h {next} {filled} f = record {
     sound = r .sound;
     records-long = r .records-long;
     given-long = r .given-long;
@@ -75,6 +79,10 @@ module _ {m : Market} {records given window out : List ℕ} {at from to base tur
   pub at-hand : length (take to window) ≡ to
   at-hand = length-take-le to window (omega (arith, r .within, r .window-long))
 
+  -- where no more is to be read, an event's bytes are at hand, or all that the tape has left
+  pub enough-at-hand : {more : Bool} → isShort from to more mostBytes ≡ false → (from + mostBytes ≤ length (take to window)) ⊎ (more ≡ false)
+  enough-at-hand {more} h = ⊎-elim (λ k. inl (omega (arith, at-hand, r .begun, k))) inr (enough from to more mostBytes h)
+
   pub can-step : longestEvent ≤ output - at → CanReplay m records out at
   can-step h = record {
     sound = r .sound;
@@ -87,7 +95,7 @@ module _ {m : Market} {records given window out : List ℕ} {at from to base tur
 
   pub steps :
       0 < turns → longestEvent ≤ output - at → {p : Step} {s : Reached} {after : Market} {numbers written lent : List ℕ} →
-      StepsTo p (take to window) from out at s after numbers written lent → length numbers ≡ givenLong →
+      StepsTo p (take to window) from out at s after numbers written lent → length numbers ≡ bulkNumbers →
       Rehearsing after written numbers window lent (s .at) (s .from) to base (turns - 1)
   steps h room {s = s} d same = record {
     sound = d .sound;

@@ -4,38 +4,43 @@
 // KiB and printed through an output of the same size, so a tape of any length takes the same memory. A program has no
 // exit status; how the replay ended is written as one byte to file descriptor 3, for the command above: `0` the tape
 // ended, `1` it was refused, `2` a file could not be opened, read or written.
-mod window;
-
+use entry::BULK_NUMBERS;
+use lanes::ALL_ENTRIES;
 use lines::OUTPUT;
 use replay::LONGEST_EVENT;
 use replay::stepping::GOING;
 use replay::stepping::step;
 use session::Session;
-use window::FAILED;
+use tape::MOST_BYTES;
 use window::is_short;
 use window::refill;
+use window::writing::write_out;
 ghost use Prim.Native.Nat.{_≤_};
 ghost use lib.ListN.{length};
 
 // Where the status goes.
 const STATUS_FILENO: i32 = 3;
 
+// A read or a write failed.
+const FAILED: u8 = b'2';
+
 // More turns of the loop than any run takes: each reads, writes or steps once.
 const TURNS: u64 = 140737488355328;
 
 fn tell(status: u8) {
-    libc::write(STATUS_FILENO, &[status]);
+    write_out(STATUS_FILENO, &[status]);
+}
+
+// How the replay stands after a read or a write.
+fn status_after(failed: bool) -> u8 {
+    if failed { FAILED } else { GOING }
 }
 
 // Writes out what is printed.
 fn flush(out: &[u8], at: usize) -> u8
     requires { ⌜ at ≤ length (now out) ⌝ }
 {
-    if io::write_all(libc::STDOUT_FILENO, &out[..at]) {
-        GOING
-    } else {
-        FAILED
-    }
+    status_after(!write_out(libc::STDOUT_FILENO, &out[..at]))
 }
 
 // The tape's file, or a negative number where it cannot be opened.
@@ -68,9 +73,9 @@ fn main() {
     let mut sizes = [0u32; 216];
     let mut owners = [0u32; 216];
     let mut numbers = [0u32; 216];
-    let mut entries = [0u32; 3456];
+    let mut entries = [0u32; ALL_ENTRIES];
     let mut records = [0u32; 864];
-    let mut given = [0u32; 120];
+    let mut given = [0u32; BULK_NUMBERS];
     let mut window = io::large_buffer();
     let mut out = io::large_buffer();
     let mut at: usize = 0;
@@ -82,13 +87,13 @@ fn main() {
     let mut turns = TURNS;
     while turns > 0 && status == GOING {
         turns -= 1;
-        if is_short(from, to, more) {
+        if is_short(from, to, more, MOST_BYTES) {
             let filled = refill(fd, &mut window, from, to, base);
             base = filled.base;
             from = 0;
             to = filled.to;
             more = filled.more;
-            status = filled.status;
+            status = status_after(filled.failed);
         } else if OUTPUT - at < LONGEST_EVENT {
             status = flush(&out, at);
             at = 0;

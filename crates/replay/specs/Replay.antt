@@ -4,19 +4,20 @@ use mathlib.Core.List.{List}
 use Prim.Native.Nat.{ℕ, _*_}
 use lib.ListN.{length, take}
 use Rattle.rows.specs.Rows.{rows}
+use Rattle.book.specs.Records.{fields}
 use Rattle.lines.specs.Laying.{Room, Laid}
 use Rattle.lines.specs.Lines.{setLine, awayLine, submitLine}
 use Rattle.entry.specs.declared.Away.{Away}
 use Rattle.entry.specs.declared.Settings as entry
+use Rattle.entry.specs.Numbers.{entryNumbers}
 use Rattle.tape.specs.declared.Event.{Event}
 use Rattle.tape.specs.declared.Event.the-variants as event
-use Rattle.tape.specs.Tape.{entryNumbers}
 use Rattle.session.specs.Market.{Market, Called}
 use Rattle.session.specs.Sound.{Sound}
 use Rattle.session.specs.Settings.{settingsOf, awayOf}
 use Rattle.session.specs.Submit.{submitOf}
 use Rattle.session.specs.Turn.{TurnDone, turnOf}
-use Rattle.session.specs.Opening.{OpenDone, openOf}
+use Rattle.session.specs.Open.{OpenDone, openOf}
 use Rattle.replay.specs.Listing.{longestEvent, turnLines, openLines}
 
 -- what an event makes of the market and of the fill records, and the bytes that it prints
@@ -37,7 +38,7 @@ settingsPrinted m given was = called setLine was (settingsOf m given)
 unfoldable pub awayPrinted : Market → Away → List ℕ → Printed
 awayPrinted m quote was = called awayLine was (awayOf m (quote .bid) (quote .offer))
 
--- `submit C`; the numbers of a bulk's entries are the first of those lent, six to an entry
+-- `submit C`; the numbers of a bulk's entries are the first of those lent
 unfoldable pub submitPrinted : Market → ℕ → ℕ → List ℕ → List ℕ → Printed
 submitPrinted m tenant count lent was = called submitLine was (submitOf m tenant count (take (entryNumbers * count) lent))
 
@@ -70,7 +71,7 @@ eventPrinted m event.Open lent was = openPrinted m was
 -- what an event asks: a sound market, a fill record for each row, and room for the longest event
 pub record CanReplay (m : Market) (was : List ℕ) (out : List ℕ) (start : ℕ) : Type 0 where
   pub sound : Sound m
-  pub records-long : length was ≡ 4 * rows
+  pub records-long : length was ≡ fields * rows
   pub room : Room out start longestEvent
 
 -- what an event leaves: exactly what it makes, its bytes from the place `start` on, and what the next event asks
@@ -79,4 +80,4 @@ pub record Replayed (p : Printed) (out : List ℕ) (start : ℕ) (m : Market) (r
   pub written : records ≡ p .records
   pub laid : Laid out start (p .bytes) longestEvent lent r
   pub sound : Sound m
-  pub records-long : length records ≡ 4 * rows
+  pub records-long : length records ≡ fields * rows

@@ -12,7 +12,7 @@ use Rattle.tape.specs.declared.Event.{Event}
 use Rattle.session.specs.Market.{Market, Called}
 use Rattle.session.specs.Sound.{Sound}
 use Rattle.session.specs.Turn.{TurnDone, turnOf}
-use Rattle.session.specs.Opening.{OpenDone, openOf}
+use Rattle.session.specs.Open.{OpenDone, openOf}
 use Rattle.replay.specs.Listing.{longestEvent, turnLines, openLines}
 use Rattle.replay.specs.Answers.{turn-served, open-records}
 use Rattle.replay.specs.Replay.{called, turnPrinted, openPrinted, eventPrinted, CanReplay, Replayed}

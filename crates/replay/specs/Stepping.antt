@@ -4,6 +4,7 @@ use mathlib.Core.List.{List}
 use Prim.Native.Nat.{ℕ, _+_, _*_, _≤_}
 use lib.ListN.{length}
 use Rattle.rows.specs.Rows.{rows}
+use Rattle.book.specs.Records.{fields}
 use Rattle.lines.specs.Laying.{Laid}
 use Rattle.lines.specs.Lines.{tapeLine, endLine}
 use Rattle.tape.specs.declared.Reading.{Reading}
@@ -58,5 +59,5 @@ pub record StepsTo (p : Step) (bytes : List ℕ) (from : ℕ) (out : List ℕ) (
   pub next : r .from ≡ p .from
   pub status : r .status ≡ p .status
   pub sound : Sound m
-  pub records-long : length records ≡ 4 * rows
+  pub records-long : length records ≡ fields * rows
   pub on-tape : from ≤ length bytes → r .from ≤ length bytes

@@ -11,7 +11,8 @@ use Rattle.tape.specs.declared.Event.{Event}
 use Rattle.tape.specs.declared.Reading.{Reading}
 use Rattle.tape.specs.declared.Reading.the-variants.{Read, Refused, End}
 use Rattle.tape.specs.Tape.{eventAt, entriesAfter}
-use Rattle.tape.specs.TapeLaws.{mostBytes, place, moved, buffered, refused-place}
+use Rattle.tape.specs.Depth.{mostBytes}
+use Rattle.tape.specs.TapeLaws.{place, moved, buffered, refused-place}
 use Rattle.session.specs.Market.{Market}
 use Rattle.replay.specs.declared.stepping.Reached as code
 use Rattle.replay.specs.Replay.{eventPrinted, CanReplay, Replayed}
@@ -82,8 +83,8 @@ module _ (m : Market) (bytes : List ℕ) (from base : ℕ) (given was : List ℕ
           on-tape = λ h. omega arith;
         }
 
--- The step in a window is the tape's: with 615 bytes at hand, or all that the tape has, it prints and makes the same,
--- and the place of the next event is the window's, counted from the tape's start.
+-- The step in a window is the tape's: with the bytes of the longest event at hand, or all that the tape has, it prints
+-- and makes the same, and the place of the next event is the window's, counted from the tape's start.
 pub buffered-step :
     (m : Market) (front buffer rest : List ℕ) (at : ℕ) (given was : List ℕ) → (at + mostBytes ≤ length buffer) ⊎ (rest ≡ []) →
     (stepOf m (front ++ (buffer ++ rest)) (length front + at) 0 given was .printed ≡ stepOf m buffer at (length front) given was .printed) ×

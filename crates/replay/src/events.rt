@@ -4,6 +4,7 @@ use crate::listing::open_lines;
 use crate::listing::turn_lines;
 use book::Records;
 use entry::Away;
+use entry::ENTRY_NUMBERS;
 use entry::Settings;
 use lanes::Entries;
 use lines::Output;
@@ -24,16 +25,15 @@ ghost use mathlib.Core.List.{List};
 ghost use Prim.Native.Nat.{ℕ, _*_, min};
 ghost use lib.ListN.{length};
 ghost use Rattle.rows.specs.Rows.{rows};
-ghost use Rattle.book.specs.Book.{Book, bookOf};
+ghost use Rattle.book.specs.Book.{Book};
+ghost use Rattle.book.specs.Lent.{given as givenBook, before, after};
+ghost use Rattle.book.specs.Records.{fields};
 ghost use Rattle.lines.specs.Laying.{Room};
-ghost use Rattle.tape.specs.Tape.{entryNumbers};
-ghost use Rattle.session.specs.Market.{marketOf};
+ghost use Rattle.entry.specs.Numbers.{entryNumbers};
+ghost use Rattle.session.specs.Market.{marketOf, marketLent, marketFound, marketLeft};
 ghost use Rattle.session.specs.Sound.{LanesSound, BookSound};
 ghost use Rattle.replay.specs.Listing.{longestEvent};
 ghost use Rattle.replay.specs.Replay.{settingsPrinted, awayPrinted, submitPrinted, turnPrinted, openPrinted, eventPrinted, CanReplay, Replayed};
-
-// The numbers of an entry.
-const NUMBERS: usize = 6;
 
 fn settings_event(
     s: Session,
@@ -48,7 +48,9 @@ fn settings_event(
     at: usize,
 ) -> Stepped
     requires { ⌜ Room (now out) at longestEvent ⌝ }
-    ensures { λ r. ⌜ ((was : List ℕ) → CanReplay (marketOf s (bookOf (now (sides .entry)) (now (prices .entry)) (now (sizes .entry)) (now (owners .entry)) (now (numbers .entry))) (now (entries .entry))) was (now (out .entry)) at → Replayed (settingsPrinted (marketOf s (bookOf (now (sides .entry)) (now (prices .entry)) (now (sizes .entry)) (now (owners .entry)) (now (numbers .entry))) (now (entries .entry))) given was) (now (out .entry)) at (marketOf (r .session) (bookOf (now (sides .exit)) (now (prices .exit)) (now (sizes .exit)) (now (owners .exit)) (now (numbers .exit))) (now (entries .exit))) was (now (out .exit)) (r .at)) ⌝ }
+    ensures { λ r. ⌜ ((was : List ℕ) → CanReplay (marketFound s sides prices sizes owners numbers entries) was (now (out .entry)) at
+        → Replayed (settingsPrinted (marketFound s sides prices sizes owners numbers entries) given was)
+        (now (out .entry)) at (marketLeft (r .session) sides prices sizes owners numbers entries) was (now (out .exit)) (r .at)) ⌝ }
 {
     let done = settings(s, given, sides, prices, sizes, owners, numbers, entries);
     let end = set_line(out, at, done.code);
@@ -61,7 +63,8 @@ fn settings_event(
 
 fn away_event(s: Session, quote: Away, out: &mut Output, at: usize) -> Stepped
     requires { ⌜ Room (now out) at longestEvent ⌝ }
-    ensures { λ r. ⌜ ((b : Book) (entries was : List ℕ) → CanReplay (marketOf s b entries) was (now (out .entry)) at → Replayed (awayPrinted (marketOf s b entries) quote was) (now (out .entry)) at (marketOf (r .session) b entries) was (now (out .exit)) (r .at)) ⌝ }
+    ensures { λ r. ⌜ ((b : Book) (entries was : List ℕ) → CanReplay (marketOf s b entries) was (now (out .entry)) at
+        → Replayed (awayPrinted (marketOf s b entries) quote was) (now (out .entry)) at (marketOf (r .session) b entries) was (now (out .exit)) (r .at)) ⌝ }
 {
     let bid = quote.bid;
     let offer = quote.offer;
@@ -78,7 +81,7 @@ fn away_event(s: Session, quote: Away, out: &mut Output, at: usize) -> Stepped
 fn numbers_of(count: u32, lent: usize) -> usize
     ensures { λ r. ⌜ r ≡ min (entryNumbers * count) lent ⌝ }
 {
-    let asked = NUMBERS * count as usize;
+    let asked = ENTRY_NUMBERS * count as usize;
     if asked < lent { asked } else { lent }
 }
 
@@ -93,7 +96,9 @@ fn submit_event(
 ) -> Stepped
     requires { ⌜ LanesSound s (now entries) ⌝ }
     requires { ⌜ Room (now out) at longestEvent ⌝ }
-    ensures { λ r. ⌜ ((b : Book) (was : List ℕ) → CanReplay (marketOf s b (now (entries .entry))) was (now (out .entry)) at → Replayed (submitPrinted (marketOf s b (now (entries .entry))) tenant count (now (given .entry)) was) (now (out .entry)) at (marketOf (r .session) b (now (entries .exit))) was (now (out .exit)) (r .at)) ⌝ }
+    ensures { λ r. ⌜ ((b : Book) (was : List ℕ) → CanReplay (marketOf s b (now (entries .entry))) was (now (out .entry)) at
+        → Replayed (submitPrinted (marketOf s b (now (entries .entry))) tenant count (now (given .entry)) was)
+        (now (out .entry)) at (marketOf (r .session) b (now (entries .exit))) was (now (out .exit)) (r .at)) ⌝ }
 {
     let n = numbers_of(count, given.len());
     let done = submit(s, tenant, count, &given[..n], entries);
@@ -117,8 +122,9 @@ fn turn_event(
     out: &mut Output,
     at: usize,
 ) -> Stepped
-    requires { ⌜ CanReplay (marketOf s (bookOf (now sides) (now prices) (now sizes) (now owners) (now numbers)) (now entries)) (now records) (now out) at ⌝ }
-    ensures { λ r. ⌜ Replayed (turnPrinted (marketOf s (bookOf (now (sides .entry)) (now (prices .entry)) (now (sizes .entry)) (now (owners .entry)) (now (numbers .entry))) (now (entries .entry))) (now (records .entry))) (now (out .entry)) at (marketOf (r .session) (bookOf (now (sides .exit)) (now (prices .exit)) (now (sizes .exit)) (now (owners .exit)) (now (numbers .exit))) (now (entries .entry))) (now (records .exit)) (now (out .exit)) (r .at) ⌝ }
+    requires { ⌜ CanReplay (marketLent s sides prices sizes owners numbers entries) (now records) (now out) at ⌝ }
+    ensures { λ r. ⌜ Replayed (turnPrinted (marketFound s sides prices sizes owners numbers entries) (now (records .entry)))
+        (now (out .entry)) at (marketLeft (r .session) sides prices sizes owners numbers entries) (now (records .exit)) (now (out .exit)) (r .at) ⌝ }
 {
     let done = turn_core(
         s,
@@ -151,10 +157,13 @@ fn open_event(
     out: &mut Output,
     at: usize,
 ) -> Stepped
-    requires { ⌜ BookSound s (bookOf (now sides) (now prices) (now sizes) (now owners) (now numbers)) ⌝ }
-    requires { ⌜ length (now records) ≡ 4 * rows ⌝ }
+    requires { ⌜ BookSound s (givenBook sides prices sizes owners numbers) ⌝ }
+    requires { ⌜ length (now records) ≡ fields * rows ⌝ }
     requires { ⌜ Room (now out) at longestEvent ⌝ }
-    ensures { λ r. ⌜ ((entries : List ℕ) → CanReplay (marketOf s (bookOf (now (sides .entry)) (now (prices .entry)) (now (sizes .entry)) (now (owners .entry)) (now (numbers .entry))) entries) (now (records .entry)) (now (out .entry)) at → Replayed (openPrinted (marketOf s (bookOf (now (sides .entry)) (now (prices .entry)) (now (sizes .entry)) (now (owners .entry)) (now (numbers .entry))) entries) (now (records .entry))) (now (out .entry)) at (marketOf (r .session) (bookOf (now (sides .entry)) (now (prices .entry)) (now (sizes .exit)) (now (owners .entry)) (now (numbers .entry))) entries) (now (records .exit)) (now (out .exit)) (r .at)) ⌝ }
+    ensures { λ r. ⌜ ((entries : List ℕ) → CanReplay (marketOf s (before sides prices sizes owners numbers) entries)
+        (now (records .entry)) (now (out .entry)) at
+        → Replayed (openPrinted (marketOf s (before sides prices sizes owners numbers) entries) (now (records .entry)))
+        (now (out .entry)) at (marketOf (r .session) (after sides prices sizes owners numbers) entries) (now (records .exit)) (now (out .exit)) (r .at)) ⌝ }
 {
     let before = *sizes;
     let done = open_core(s, sides, prices, sizes, owners, numbers, ROWS, records);
@@ -182,8 +191,9 @@ pub fn event(
     out: &mut Output,
     at: usize,
 ) -> Stepped
-    requires { ⌜ CanReplay (marketOf s (bookOf (now sides) (now prices) (now sizes) (now owners) (now numbers)) (now entries)) (now records) (now out) at ⌝ }
-    ensures { λ r. ⌜ Replayed (eventPrinted (marketOf s (bookOf (now (sides .entry)) (now (prices .entry)) (now (sizes .entry)) (now (owners .entry)) (now (numbers .entry))) (now (entries .entry))) e (now (given .entry)) (now (records .entry))) (now (out .entry)) at (marketOf (r .session) (bookOf (now (sides .exit)) (now (prices .exit)) (now (sizes .exit)) (now (owners .exit)) (now (numbers .exit))) (now (entries .exit))) (now (records .exit)) (now (out .exit)) (r .at) ⌝ }
+    requires { ⌜ CanReplay (marketLent s sides prices sizes owners numbers entries) (now records) (now out) at ⌝ }
+    ensures { λ r. ⌜ Replayed (eventPrinted (marketFound s sides prices sizes owners numbers entries) e (now (given .entry)) (now (records .entry)))
+        (now (out .entry)) at (marketLeft (r .session) sides prices sizes owners numbers entries) (now (records .exit)) (now (out .exit)) (r .at) ⌝ }
 {
     match e {
         Event::Settings(asked) => settings_event(

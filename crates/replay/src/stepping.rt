@@ -10,8 +10,7 @@ use session::Session;
 use tape::Reading;
 ghost use Prim.Native.Nat.{_+_, _<_};
 ghost use lib.ListN.{length};
-ghost use Rattle.book.specs.Book.{bookOf};
-ghost use Rattle.session.specs.Market.{marketOf};
+ghost use Rattle.session.specs.Market.{marketLent, marketFound, marketLeft};
 ghost use Rattle.replay.specs.Replay.{CanReplay};
 ghost use Rattle.replay.specs.Stepping.{stepOf, StepsTo};
 
@@ -50,9 +49,12 @@ pub fn step(
     out: &mut Output,
     at: usize,
 ) -> Reached
-    requires { ⌜ CanReplay (marketOf s (bookOf (now sides) (now prices) (now sizes) (now owners) (now numbers)) (now entries)) (now records) (now out) at ⌝ }
+    requires { ⌜ CanReplay (marketLent s sides prices sizes owners numbers entries) (now records) (now out) at ⌝ }
     requires { ⌜ base + length (now bytes) < 18446744073709551616 ⌝ }
-    ensures { λ r. ⌜ StepsTo (stepOf (marketOf s (bookOf (now (sides .entry)) (now (prices .entry)) (now (sizes .entry)) (now (owners .entry)) (now (numbers .entry))) (now (entries .entry))) (now (bytes .entry)) from base (now (given .entry)) (now (records .entry))) (now (bytes .entry)) from (now (out .entry)) at r (marketOf (r .session) (bookOf (now (sides .exit)) (now (prices .exit)) (now (sizes .exit)) (now (owners .exit)) (now (numbers .exit))) (now (entries .exit))) (now (given .exit)) (now (records .exit)) (now (out .exit)) ⌝ }
+    ensures { λ r. ⌜ StepsTo
+        (stepOf (marketFound s sides prices sizes owners numbers entries) (now (bytes .entry)) from base (now (given .entry)) (now (records .entry)))
+        (now (bytes .entry)) from (now (out .entry)) at r
+        (marketLeft (r .session) sides prices sizes owners numbers entries) (now (given .exit)) (now (records .exit)) (now (out .exit)) ⌝ }
 {
     let reading = tape::events::event(bytes, from, given);
     match reading {

@@ -18,8 +18,8 @@ module _ (n : ℕ) where
     lowestSell = leastTo noPrice (λ i. sellPrice (side i) (price i) (size i)) n
 
     -- contracts that may be traded on side s within a bound
-    unfoldable pub standing : ℕ → ℕ → ℕ
-    standing s bound = sumTo (λ i. openSize s bound (side i) (price i) (size i)) n
+    unfoldable pub restingWithin : ℕ → ℕ → ℕ
+    restingWithin s bound = sumTo (λ i. openSize s bound (side i) (price i) (size i)) n
 
   -- how many rows a tenant has resting
   unfoldable pub restingRows : (ℕ → ℕ) → (ℕ → ℕ) → ℕ → ℕ

@@ -21,14 +21,30 @@ highest = 1000000
 abbrev pub noPrice : ℕ
 noPrice = 1000001
 
+-- sizes are 1 to 999,999
+abbrev pub largest : ℕ
+largest = 999999
+
+-- order numbers run from 1 to 4,294,967,295
+abbrev pub lastNumber : ℕ
+lastNumber = 4294967295
+
+-- above every order number
+abbrev pub noNumber : ℕ
+noNumber = 4294967296
+
+-- a side sells, where it is 2; else it buys
+abbrev pub selling : ℕ → Bool
+selling side = eqb side 2
+
 -- the key of a price on a side, where a lower key is a better price: an offer's price, and what a bid's price lacks of
 -- the highest
 unfoldable pub keyOf : ℕ → ℕ → ℕ
-keyOf side price = cond (eqb side 2) price (highest - price)
+keyOf side price = cond (selling side) price (highest - price)
 
 -- a price is no worse than the bound: an offer is not above it, a bid not below
 unfoldable pub within : ℕ → ℕ → ℕ → Bool
-within side price bound = cond (eqb side 2) (leb price bound) (leb bound price)
+within side price bound = cond (selling side) (leb price bound) (leb bound price)
 
 -- what may be traded of a row by an order that trades with one side within a bound: its size, if it is on the side and
 -- within the bound
@@ -41,7 +57,7 @@ buyPrice side price size = keep (eqb side 1 && ltb 0 size) price
 
 -- a row's price if it is a resting sell, else above every price
 unfoldable pub sellPrice : ℕ → ℕ → ℕ → ℕ
-sellPrice side price size = cond (eqb side 2 && ltb 0 size) price noPrice
+sellPrice side price size = cond (selling side && ltb 0 size) price noPrice
 
 -- a row rests for a tenant
 unfoldable pub restsFor : ℕ → ℕ → ℕ → Bool

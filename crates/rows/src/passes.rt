@@ -12,13 +12,13 @@ use crate::row::rests_for;
 use crate::row::sell_price;
 use crate::row::wide;
 ghost use mathlib.Core.Path.{_≡_};
-ghost use Rattle.units.specs.Places.{at};
+ghost use Rattle.units.specs.Lent.{found};
 ghost use Rattle.rows.specs.Rows.{rows};
-ghost use Rattle.rows.specs.Passes.{highestBuy, lowestSell, standing, restingRows, orderRow, freeRow};
+ghost use Rattle.rows.specs.Passes.{highestBuy, lowestSell, restingWithin, restingRows, orderRow, freeRow};
 
 // The highest resting buy, 0 where there is none.
 pub fn highest_buy(sides: &Column, prices: &Column, sizes: &Column) -> u32
-    ensures { λ r. ⌜ r ≡ highestBuy rows (at (now (sides .entry))) (at (now (prices .entry))) (at (now (sizes .entry))) ⌝ }
+    ensures { λ r. ⌜ r ≡ highestBuy rows (found sides) (found prices) (found sizes) ⌝ }
 {
     let mut most: u32 = 0;
     let mut i: usize = 0;
@@ -31,7 +31,7 @@ pub fn highest_buy(sides: &Column, prices: &Column, sizes: &Column) -> u32
 
 // The lowest resting sell, above every price where there is none.
 pub fn lowest_sell(sides: &Column, prices: &Column, sizes: &Column) -> u32
-    ensures { λ r. ⌜ r ≡ lowestSell rows (at (now (sides .entry))) (at (now (prices .entry))) (at (now (sizes .entry))) ⌝ }
+    ensures { λ r. ⌜ r ≡ lowestSell rows (found sides) (found prices) (found sizes) ⌝ }
 {
     let mut least: u32 = NO_PRICE;
     let mut i: usize = 0;
@@ -43,8 +43,8 @@ pub fn lowest_sell(sides: &Column, prices: &Column, sizes: &Column) -> u32
 }
 
 // Contracts that may be traded on a side within a bound.
-pub fn standing(side: u32, bound: u32, sides: &Column, prices: &Column, sizes: &Column) -> u64
-    ensures { λ r. ⌜ r ≡ standing rows (at (now (sides .entry))) (at (now (prices .entry))) (at (now (sizes .entry))) side bound ⌝ }
+pub fn resting_within(side: u32, bound: u32, sides: &Column, prices: &Column, sizes: &Column) -> u64
+    ensures { λ r. ⌜ r ≡ restingWithin rows (found sides) (found prices) (found sizes) side bound ⌝ }
 {
     let mut sum: u64 = 0;
     let mut i: usize = 0;
@@ -57,7 +57,7 @@ pub fn standing(side: u32, bound: u32, sides: &Column, prices: &Column, sizes: &
 
 // How many rows a tenant has resting.
 pub fn resting_rows(owners: &Column, sizes: &Column, tenant: u32) -> u32
-    ensures { λ r. ⌜ r ≡ restingRows rows (at (now (owners .entry))) (at (now (sizes .entry))) tenant ⌝ }
+    ensures { λ r. ⌜ r ≡ restingRows rows (found owners) (found sizes) tenant ⌝ }
 {
     let mut count: u32 = 0;
     let mut i: usize = 0;
@@ -76,7 +76,7 @@ pub fn order_row(
     tenant: u32,
     number: u32,
 ) -> usize
-    ensures { λ r. ⌜ r ≡ orderRow rows (at (now (owners .entry))) (at (now (numbers .entry))) (at (now (sizes .entry))) tenant number ⌝ }
+    ensures { λ r. ⌜ r ≡ orderRow rows (found owners) (found numbers) (found sizes) tenant number ⌝ }
 {
     let mut i: usize = 0;
     while i < ROWS {
@@ -90,7 +90,7 @@ pub fn order_row(
 
 // The first free row, past the last where there is none.
 pub fn free_row(sizes: &Column) -> usize
-    ensures { λ r. ⌜ r ≡ freeRow rows (at (now (sizes .entry))) ⌝ }
+    ensures { λ r. ⌜ r ≡ freeRow rows (found sizes) ⌝ }
 {
     let mut i: usize = 0;
     while i < ROWS {

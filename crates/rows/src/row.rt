@@ -15,6 +15,13 @@ pub fn lesser(a: u32, b: u32) -> u32
     if a < b { a } else { b }
 }
 
+// The lesser of two wider numbers.
+pub fn lesser_wide(a: u64, b: u64) -> u64
+    ensures { λ r. ⌜ r ≡ min a b ⌝ }
+{
+    if b < a { b } else { a }
+}
+
 // The greater of two.
 pub fn greater(a: u32, b: u32) -> u32
     ensures { λ r. ⌜ r ≡ max a b ⌝ }
@@ -27,6 +34,13 @@ pub fn beyond(a: u32, b: u32) -> u32
     ensures { λ r. ⌜ r ≡ a - b ⌝ }
 {
     if b < a { a - b } else { 0 }
+}
+
+// What a has beyond b, if anything, in wider numbers.
+pub fn beyond_wide(a: u64, b: u64) -> u64
+    ensures { λ r. ⌜ r ≡ a - b ⌝ }
+{
+    if a <= b { 0 } else { a - b }
 }
 
 // A number for a sum of many, which fits a wider one.

@@ -1,33 +1,17 @@
--- What the session promises: the five calls of document 01 as definitions over one market.
+-- What the session promises: the five calls of document 01 as definitions over one market. Files whose names end in
+-- Laws prove; the others state.
 pub mod Market
+pub mod Sound
 pub mod Settings
 pub mod SettingsLaws
+pub mod SettingsSoundLaws
 pub mod Submit
 pub mod SubmitLaws
-pub mod Opposite
-pub mod Resting
-pub mod Settle
-pub mod SettleLaws
-pub mod Credit
-pub mod CreditLaws
+pub mod SubmitSoundLaws
 pub mod Turn
+pub mod TakingLaws
+pub mod TurnSoundLaws
 pub mod TurnLaws
-pub mod TradeTurn
-pub mod OrderTurn
-pub mod EntryTurn
-pub mod WholeTurn
-pub mod Opening
-pub mod OpenWay
+pub mod Open
 pub mod OpenLaws
-pub mod OpenTallies
-pub mod OpenSound
-pub mod Sound
-pub mod SettingsSound
-pub mod SubmitSound
-pub mod TakingSound
-pub mod TradedTo
-pub mod CancelSound
-pub mod RestSound
-pub mod TradeSums
-pub mod TradeSound
-pub mod TurnSound
+pub mod OpenSoundLaws

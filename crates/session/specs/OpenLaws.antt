@@ -2,28 +2,29 @@
 use mathlib.Core.Path.{_≡_, refl, sym, ap, _∙_}
 use mathlib.Core.Bool.{Bool, true, false, true≢false}
 use mathlib.Core.List.{List}
-use Prim.Native.Nat.{ℕ, _≤_, _<_}
+use Prim.Native.Nat.{ℕ, _*_, _≤_, _<_}
 use lib.Dec.{ltb}
+use lib.ListN.{length}
 use borrow.Author.Tests.{lt-ltb, le-ltb}
 use Rattle.units.specs.declared.Cents.{Cents}
+use Rattle.book.specs.Records.{fields}
 use Rattle.units.specs.Units.{cents, contracts}
 use Rattle.units.specs.Tests.{_and_, isNot, pick, fails, not-holds, not-false}
 use Rattle.rows.specs.Rows.{rows}
 use Rattle.book.specs.Book.{Book, crosses}
-use Rattle.book.specs.Opening.{afterOpening, openingWritten}
-use Rattle.opening.specs.declared.matching.Matched.{Matched}
-use Rattle.opening.specs.Answers.{matchedOf}
+use Rattle.opening.specs.Opening.{afterOpening, openingWritten}
+use Rattle.dealing.specs.declared.open.Counted.{Counted}
+use Rattle.dealing.specs.Open.{countedOf, CanOpen}
+use Rattle.dealing.specs.Sound.{Ready}
 use Rattle.price.specs.declared.Choice.{Choice}
 use Rattle.price.specs.declared.Choice.the-variants as choice
 use Rattle.price.specs.Price.{chosen}
-use Rattle.tally.specs.declared.Tally.{Tally}
 use Rattle.session.specs.declared.OpenAnswer.the-variants as answer
 use Rattle.session.specs.declared.Session.{Session}
 use Rattle.session.specs.declared.open.Way.{Way}
 use Rattle.session.specs.declared.open.Way.the-variants.{Refused, Quiet, At}
-use Rattle.session.specs.Market.{Market, marketOf}
-use Rattle.session.specs.Opening.{openRefusal, choiceOf, openOn, openQuiet, openAt, openOf, talliesOpened}
-use Rattle.session.specs.OpenWay.{wayOf, byWay}
+use Rattle.session.specs.Market.{Market, marketOf, floorOn}
+use Rattle.session.specs.Open.{openRefusal, choiceOf, openOn, openQuiet, openAt, openOf, wayOf, byWay}
 
 -- which way it goes, by what each test says
 module _ (m : Market) (lent : ℕ) where
@@ -76,6 +77,11 @@ module _ (m : Market) (lent : ℕ) where
       go false true = refl
       go false false = refl
 
+-- what judging rests on, opening does
+pub can-open : (s : Session) (b : Book) (was : List ℕ) → Ready (floorOn s b) → length was ≡ fields * rows → CanOpen (s .tallies) b was
+can-open s b was ready long =
+    record { next = s .next; next-most = ready .next-most; sound = ready .book; sums = ready .tallies; records-long = long }
+
 module _ (m : Market) (was : List ℕ) where
   pub quiet-is : (after : Session) → after ≡ openOn (m .session) (m .session .tallies) →
       record { market = marketOf after (m .book) (m .entries); answer = answer.AtPrice (cents 0) (contracts 0) 0; records = was } ≡ openQuiet m was
@@ -83,13 +89,12 @@ module _ (m : Market) (was : List ℕ) where
   quiet-is after e = rw e
 
   pub matched-is :
-      (price : Cents) (b : Book) (records : List ℕ) (done : Matched) (counted : List Tally) (after : Session) →
+      (price : Cents) (b : Book) (records : List ℕ) (done : Counted) (after : Session) →
       b ≡ afterOpening (m .book) (price .0) →
       records ≡ openingWritten (m .book) (price .0) was →
-      done ≡ matchedOf (m .book) (price .0) →
-      counted ≡ talliesOpened (m .book) (price .0) (m .session .tallies) →
-      after ≡ openOn (m .session) counted →
+      done ≡ countedOf (m .session .tallies) (m .book) (price .0) →
+      after ≡ openOn (m .session) (done .tallies) →
       record { market = marketOf after b (m .entries); answer = answer.AtPrice price (done .volume) (done .fills); records = records } ≡
       openAt m was (price .0)
-  unfolding openAt matchedOf
-  matched-is price b records done counted after e₁ e₂ e₃ e₄ e₅ = rw (e₅, e₄, e₃, e₂, e₁)
+  unfolding openAt countedOf
+  matched-is price b records done after e₁ e₂ e₃ e₄ = rw (e₄, e₃, e₂, e₁)

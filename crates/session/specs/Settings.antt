@@ -20,7 +20,7 @@ use Rattle.entry.specs.Settings.{inRange, termsOf}
 use Rattle.lanes.specs.Ring.{allEntries, empty}
 use Rattle.tally.specs.Tallies.{noTallies}
 use Rattle.session.specs.declared.Session.{Session}
-use Rattle.session.specs.Market.{Market, Called, marketOf, unset}
+use Rattle.session.specs.Market.{Market, Called, marketOf, withAway, unset}
 
 abbrev pub noQuote : Away
 noQuote = record { bid = cents 0; offer = cents 0 }
@@ -82,17 +82,6 @@ unfoldable pub awayRefusal : Session → Cents → Cents → ℕ
 awayRefusal s bid offer = firstOf 0 (awayCases s bid offer)
 
 -- An accepted away replaces the present bid and offer, answers 0 and changes nothing else.
-abbrev pub withAway : Session → Cents → Cents → Session
-withAway s bid offer = record {
-  accepted = s .accepted;
-  terms = s .terms;
-  away = record { bid = bid; offer = offer };
-  opened = s .opened;
-  lanes = s .lanes;
-  next = s .next;
-  tallies = s .tallies;
-}
-
 unfoldable pub awayOf : Market → Cents → Cents → Called
 awayOf m bid offer =
     pick (ltb 0 (awayRefusal (m .session) bid offer))

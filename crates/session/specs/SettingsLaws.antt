@@ -16,8 +16,8 @@ use Rattle.entry.specs.declared.Terms.{Terms}
 use Rattle.entry.specs.Settings.{inRange, termsOf}
 use Rattle.lanes.specs.Ring.{allEntries}
 use Rattle.session.specs.declared.Session.{Session}
-use Rattle.session.specs.Market.{Market, marketOf}
-use Rattle.session.specs.Settings.{startedOn, settingsOf, awayRefusal, withAway, awayOf}
+use Rattle.session.specs.Market.{Market, marketOf, withAway}
+use Rattle.session.specs.Settings.{startedOn, settingsOf, awayRefusal, awayOf}
 
 module _ (m : Market) (s : Settings) where
   -- what of the grid of the number and of the ranges the code has in hand

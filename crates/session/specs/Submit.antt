@@ -1,26 +1,14 @@
 -- The call submit: a bulk of entries into a tenant's lane.
-use mathlib.Core.Bool.{Bool}
 use mathlib.Core.List.{List, [], _∷_}
-use Prim.Native.Nat.{ℕ, _+_, _*_}
-use lib.Dec.{leb, ltb, eqb}
-use lib.ListN.{length}
-use Rattle.units.specs.Tests.{_and_, isNot, pick}
+use Prim.Native.Nat.{ℕ, _+_}
+use lib.Dec.{leb, ltb}
+use Rattle.units.specs.Units.{tenants}
+use Rattle.units.specs.Tests.{isNot, pick}
 use Rattle.units.specs.Cases.{Case, _when_, firstOf}
-use Rattle.units.specs.Firsts.{firstTo}
-use Rattle.entry.specs.Numbers.{from1to}
-use Rattle.entry.specs.Entry.{malformed}
-use Rattle.lanes.specs.declared.Lanes.{Lanes}
-use Rattle.lanes.specs.Ring.{tenants, depth, bulk, entryAt, lenOf, putAll, joined}
+use Rattle.lanes.specs.Ring.{depth, lenOf, putAll, joined}
+use Rattle.lanes.specs.Bulk.{wellCounted, someMalformed}
 use Rattle.session.specs.declared.Session.{Session}
-use Rattle.session.specs.Market.{Market, Called, marketOf, unset}
-
--- 3 count not 1 to 20 or not six numbers lent for each entry
-unfoldable pub wellCounted : ℕ → List ℕ → Bool
-wellCounted count ns = from1to bulk count and eqb (length ns) (6 * count)
-
--- 2 any malformed entry
-unfoldable pub someMalformed : ℕ → List ℕ → Bool
-someMalformed count ns = ltb (firstTo (λ j. malformed (entryAt ns j)) count) count
+use Rattle.session.specs.Market.{Market, Called, marketOf, withLanes, unset}
 
 -- the numbers in the order of checking: 1 tenant, 3 count, 2 any malformed entry, 4 waiting plus count above 64
 abbrev pub submitCases : Session → ℕ → ℕ → List ℕ → List Case
@@ -34,18 +22,6 @@ submitCases s tenant count ns =
 
 unfoldable pub submitRefusal : Session → ℕ → ℕ → List ℕ → ℕ
 submitRefusal s tenant count ns = firstOf 0 (submitCases s tenant count ns)
-
--- a session with other lanes
-abbrev pub withLanes : Session → Lanes → Session
-withLanes s lanes = record {
-  accepted = s .accepted;
-  terms = s .terms;
-  away = s .away;
-  opened = s .opened;
-  lanes = lanes;
-  next = s .next;
-  tallies = s .tallies;
-}
 
 -- Submit takes all of a bulk or none: an accepted one puts its entries, as given and in their order, behind those
 -- waiting in the tenant's lane, answers 0 and changes nothing else.

@@ -1,36 +1,25 @@
 -- The cases of submit.
 use mathlib.Core.Path.{_≡_, refl}
-use mathlib.Core.Bool.{Bool, true, false}
+use mathlib.Core.Bool.{true, false}
 use mathlib.Core.List.{List}
 use Prim.Native.Nat.{ℕ, _+_, _*_, _≤_, _<_}
 use native.Mathlib.Omega.{arith}
 use lib.Dec.{leb, ltb}
 use lib.ListN.{length}
 use borrow.Author.Tests.{lt-ltb, le-ltb, le-leb, lt-leb, eqb-true, leb-true, leb-false, ltb-false}
+use Rattle.units.specs.Units.{tenants}
 use Rattle.units.specs.Tests.{_and_, isNot, pick, and-true, not-holds, not-false}
 use Rattle.units.specs.CaseLaws.{given-none}
 use Rattle.units.specs.Firsts.{firstTo, first-before}
-use Rattle.units.specs.Loops.{Sought, seek-finds, seek-ends}
 use Rattle.entry.specs.Entry.{malformed}
-use Rattle.entry.specs.Numbers.{from1to}
+use Rattle.entry.specs.Numbers.{entryNumbers, bulk, from1to}
 use Rattle.lanes.specs.declared.Lanes.{Lanes}
-use Rattle.lanes.specs.Ring.{tenants, depth, bulk, entryAt, lenOf, putAll, joined}
+use Rattle.lanes.specs.Ring.{depth, entryAt, lenOf, putAll, joined}
+use Rattle.lanes.specs.Bulk.{wellCounted, someMalformed}
+use Rattle.lanes.specs.BulkLaws.{badAt}
 use Rattle.session.specs.declared.Session.{Session}
-use Rattle.session.specs.Market.{Market, marketOf}
-use Rattle.session.specs.Submit.{wellCounted, someMalformed, submitCases, submitRefusal, withLanes, submitOf}
-
--- entry j of the bulk is malformed
-abbrev pub badAt : List ℕ → ℕ → Bool
-badAt ns j = malformed (entryAt ns j)
-
-module _ (count : ℕ) (ns : List ℕ) (j : ℕ) (sought : Sought count (badAt ns) j) where
-  pub malformed-found : j < count → badAt ns j ≡ true → true ≡ someMalformed count ns
-  unfolding someMalformed
-  malformed-found h e = let f = seek-finds count (badAt ns) j sought h e in rw (← f, lt-ltb j count h)
-
-  pub malformed-none : count ≤ j → false ≡ someMalformed count ns
-  unfolding someMalformed
-  malformed-none h = let f = seek-ends count (badAt ns) j sought h in rw (← f, le-ltb j count h)
+use Rattle.session.specs.Market.{Market, marketOf, withLanes}
+use Rattle.session.specs.Submit.{submitCases, submitRefusal, submitOf}
 
 -- which number is given, by what each test says
 module _ (s : Session) (tenant count : ℕ) (ns : List ℕ) where
@@ -66,12 +55,12 @@ module _ (s : Session) (tenant count : ℕ) (ns : List ℕ) where
 pub record Joins (s : Session) (tenant count : ℕ) (ns : List ℕ) : Type 0 where
   pub set : s .accepted ≡ true
   pub lane : tenant < tenants
-  pub given : length ns ≡ 6 * count
+  pub given : length ns ≡ entryNumbers * count
   pub few : count ≤ bulk
   pub formed : (j : ℕ) → j < count → malformed (entryAt ns j) ≡ false
   pub room : lenOf (s .lanes) tenant + count ≤ depth
 
-well-given : (count : ℕ) (ns : List ℕ) → wellCounted count ns ≡ true → (length ns ≡ 6 * count) × (count ≤ bulk)
+well-given : (count : ℕ) (ns : List ℕ) → wellCounted count ns ≡ true → (length ns ≡ entryNumbers * count) × (count ≤ bulk)
 unfolding wellCounted from1to
 well-given count ns h =
     let two = and-true (leb 1 count and leb count bulk) _ h in

@@ -1,9 +1,7 @@
 // The session: settings, away quote, book, lanes, rotation and tallies of one option series, and the five calls on it.
 pub mod away;
-mod credit;
 pub mod open;
 pub mod settings;
-mod settle;
 pub mod submit;
 pub mod turn;
 
@@ -11,7 +9,7 @@ use crate::settings::started;
 use entry::Away;
 use entry::Terms;
 use lanes::Lanes;
-use tally::Tally;
+use tally::Tallies;
 use units::Cents;
 use units::Contracts;
 use units::grid::Grid;
@@ -32,7 +30,7 @@ pub struct Session {
     opened: bool,
     lanes: Lanes,
     next: u64,
-    tallies: [Tally; 9],
+    tallies: Tallies,
 }
 
 // What a session has before settings are accepted.

@@ -6,6 +6,7 @@ use entry::Settings;
 use entry::Terms;
 use entry::ranges::in_range;
 use entry::ranges::terms_of;
+use lanes::ALL_ENTRIES;
 use lanes::Entries;
 use lanes::Lanes;
 use rows::Column;
@@ -13,8 +14,8 @@ use units::Cents;
 use units::grid::Chosen;
 use units::grid::Grid;
 ghost use mathlib.Core.Path.{_≡_};
-ghost use Rattle.book.specs.Book.{bookOf};
-ghost use Rattle.session.specs.Market.{marketOf, answeredOf};
+ghost use Rattle.book.specs.Lent.{after};
+ghost use Rattle.session.specs.Market.{marketFound, marketLeft, answeredOf};
 ghost use Rattle.session.specs.Settings.{startedOn, settingsOf};
 ghost use Rattle.session.specs.Sound.{Sound};
 
@@ -50,8 +51,10 @@ pub fn settings(
     numbers: &mut Column,
     entries: &mut Entries,
 ) -> Answered
-    ensures exact { λ r. ⌜ answeredOf r (bookOf (now (sides .exit)) (now (prices .exit)) (now (sizes .exit)) (now (owners .exit)) (now (numbers .exit))) (now (entries .exit)) ≡ settingsOf (marketOf s (bookOf (now (sides .entry)) (now (prices .entry)) (now (sizes .entry)) (now (owners .entry)) (now (numbers .entry))) (now (entries .entry))) given ⌝ }
-    ensures sound { λ r. ⌜ (Sound (marketOf s (bookOf (now (sides .entry)) (now (prices .entry)) (now (sizes .entry)) (now (owners .entry)) (now (numbers .entry))) (now (entries .entry))) → Sound (marketOf (r .session) (bookOf (now (sides .exit)) (now (prices .exit)) (now (sizes .exit)) (now (owners .exit)) (now (numbers .exit))) (now (entries .exit)))) ⌝ }
+    ensures exact { λ r. ⌜ answeredOf r (after sides prices sizes owners numbers) (now (entries .exit))
+        ≡ settingsOf (marketFound s sides prices sizes owners numbers entries) given ⌝ }
+    ensures sound { λ r. ⌜ (Sound (marketFound s sides prices sizes owners numbers entries)
+        → Sound (marketLeft (r .session) sides prices sizes owners numbers entries)) ⌝ }
 {
     let chosen = Grid::of(given.grid);
     let Chosen::One(grid) = chosen else {
@@ -66,7 +69,7 @@ pub fn settings(
         *sizes = [0u32; 216];
         *owners = [0u32; 216];
         *numbers = [0u32; 216];
-        *entries = [0u32; 3456];
+        *entries = [0u32; ALL_ENTRIES];
         let terms = terms_of(given, grid);
         let after = started(true, terms);
         Answered {

@@ -1,57 +1,18 @@
 // The call submit.
 use crate::Answered;
 use crate::Session;
-use entry::form::malformed;
-use lanes::DEPTH;
 use lanes::Entries;
-use lanes::NUMBERS;
-use lanes::TENANTS;
-use lanes::ring::given;
+use lanes::bulk::some_malformed;
+use lanes::bulk::too_many;
+use lanes::bulk::well_counted;
 use lanes::ring::joined;
 use lanes::ring::put_all;
-use units::words::both;
+use units::TENANTS;
 ghost use mathlib.Core.Path.{_≡_};
-ghost use Prim.Native.Nat.{_+_};
-ghost use lib.Dec.{ltb};
 ghost use Rattle.book.specs.Book.{Book};
-ghost use Rattle.lanes.specs.Ring.{depth};
 ghost use Rattle.session.specs.Market.{marketOf, answeredOf};
-ghost use Rattle.session.specs.Submit.{wellCounted, someMalformed, submitRefusal, submitOf};
+ghost use Rattle.session.specs.Submit.{submitRefusal, submitOf};
 ghost use Rattle.session.specs.Sound.{LanesSound, Sound};
-
-// The most entries of a bulk.
-const BULK: u32 = 20;
-
-// A count of 1 to 20, with six numbers lent for each entry.
-fn well_counted(count: u32, numbers: &[u32]) -> bool
-    ensures { λ r. ⌜ r ≡ wellCounted count (now (numbers .entry)) ⌝ }
-{
-    both(
-        both(1 <= count, count <= BULK),
-        numbers.len() == NUMBERS * count as usize,
-    )
-}
-
-fn some_malformed(count: u32, numbers: &[u32]) -> bool
-    ensures { λ r. ⌜ r ≡ someMalformed count (now (numbers .entry)) ⌝ }
-{
-    let mut j: u32 = 0;
-    while j < count {
-        let e = given(numbers, j as usize);
-        if malformed(e) {
-            return true;
-        }
-        j += 1;
-    }
-    false
-}
-
-// Waiting plus count above 64.
-fn too_many(waiting: u32, count: u32) -> bool
-    ensures { λ r. ⌜ r ≡ ltb depth (waiting + count) ⌝ }
-{
-    DEPTH < waiting as usize + count as usize
-}
 
 // The number by which a submit is refused, or 0.
 fn refusal(s: Session, tenant: u32, count: u32, numbers: &[u32]) -> u32
@@ -87,7 +48,8 @@ pub fn submit(
     entries: &mut Entries,
 ) -> Answered
     requires { ⌜ LanesSound s (now entries) ⌝ }
-    ensures exact { λ r. ⌜ ((b : Book) → answeredOf r b (now (entries .exit)) ≡ submitOf (marketOf s b (now (entries .entry))) tenant count (now (numbers .entry))) ⌝ }
+    ensures exact { λ r. ⌜ ((b : Book) → answeredOf r b (now (entries .exit))
+        ≡ submitOf (marketOf s b (now (entries .entry))) tenant count (now (numbers .entry))) ⌝ }
     ensures sound { λ r. ⌜ ((b : Book) → Sound (marketOf s b (now (entries .entry))) → Sound (marketOf (r .session) b (now (entries .exit)))) ⌝ }
 {
     let code = refusal(s, tenant, count, numbers);

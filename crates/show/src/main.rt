@@ -4,6 +4,7 @@ use entry::Settings;
 use fills::Fill;
 use fills::turn;
 use fills::turn_fills;
+use lanes::ALL_ENTRIES;
 use lanes::Entries;
 use libc::STDOUT_FILENO;
 use rows::Column;
@@ -15,8 +16,8 @@ use session::submit::submit;
 use units::Cents;
 use units::Contracts;
 ghost use mathlib.Core.Path.{_≡_};
-ghost use Rattle.book.specs.Book.{bookOf};
-ghost use Rattle.session.specs.Market.{marketOf};
+ghost use Rattle.book.specs.Lent.{after};
+ghost use Rattle.session.specs.Market.{marketLent, marketFound, marketLeft};
 ghost use Rattle.session.specs.Sound.{Sound};
 ghost use Rattle.fills.specs.Calls.{turnStored, turnWith};
 
@@ -46,9 +47,10 @@ fn on_row(
     entries: &Entries,
     fills: [Fill; 216],
 ) -> Shown
-    requires { ⌜ Sound (marketOf s (bookOf (now sides) (now prices) (now sizes) (now owners) (now numbers)) (now entries)) ⌝ }
-    ensures exact { λ r. ⌜ turnStored (r .turned) (bookOf (now (sides .exit)) (now (prices .exit)) (now (sizes .exit)) (now (owners .exit)) (now (numbers .exit))) (now (entries .entry)) (r .row) ≡ turnWith (marketOf s (bookOf (now (sides .entry)) (now (prices .entry)) (now (sizes .entry)) (now (owners .entry)) (now (numbers .entry))) (now (entries .entry))) fills ⌝ }
-    ensures sound { λ r. ⌜ Sound (marketOf (r .turned .session) (bookOf (now (sides .exit)) (now (prices .exit)) (now (sizes .exit)) (now (owners .exit)) (now (numbers .exit))) (now (entries .entry))) ⌝ }
+    requires { ⌜ Sound (marketLent s sides prices sizes owners numbers entries) ⌝ }
+    ensures exact { λ r. ⌜ turnStored (r .turned) (after sides prices sizes owners numbers) (now (entries .entry)) (r .row)
+        ≡ turnWith (marketFound s sides prices sizes owners numbers entries) fills ⌝ }
+    ensures sound { λ r. ⌜ Sound (marketLeft (r .turned .session) sides prices sizes owners numbers entries) ⌝ }
 {
     let mut row = fills;
     let turned = turn(s, sides, prices, sizes, owners, numbers, entries, &mut row);
@@ -117,7 +119,7 @@ fn main() {
     let mut sizes = [0u32; 216];
     let mut owners = [0u32; 216];
     let mut numbers = [0u32; 216];
-    let mut entries = [0u32; 3456];
+    let mut entries = [0u32; ALL_ENTRIES];
     let mut records = [0u32; 864];
     let buy = [1u32, 1, 1, 100, 5, 0];
     let sell = [1u32, 2, 2, 100, 3, 0];

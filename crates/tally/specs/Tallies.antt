@@ -4,6 +4,7 @@ use mathlib.Core.List.{List, [], _∷_}
 use Prim.Native.Nat.{ℕ, suc, _+_, _<_, _^_}
 use lib.Dec.{eqb}
 use lib.ListN.{length, getD, replicate}
+use Rattle.units.specs.Units.{tenants}
 use Rattle.units.specs.Sums.{sumTo}
 use Rattle.units.specs.Picked.{keep}
 use Rattle.tally.specs.declared.Tally.{Tally}
@@ -24,7 +25,7 @@ abbrev pub tallyAt : List Tally → ℕ → Tally
 tallyAt tallies t = getD tallies t zero
 
 abbrev pub noTallies : List Tally
-noTallies = replicate 9 zero
+noTallies = replicate tenants zero
 
 -- the tallies from tenant t on, each with that tenant's turns, contracts bought and contracts sold added
 unfoldable pub addedFrom : ℕ → (ℕ → ℕ) → (ℕ → ℕ) → (ℕ → ℕ) → List Tally → List Tally
@@ -45,16 +46,20 @@ counted tallies who turns bought sold = added (onlyFor who turns) (onlyFor who b
 
 -- there is such a tenant, and the sums fit
 pub record Countable (tallies : List Tally) (who turns bought sold : ℕ) : Type 0 where
-  pub long : length tallies ≡ 9
-  pub tenant : who < 9
+  pub long : length tallies ≡ tenants
+  pub tenant : who < tenants
   pub sums : fits (tallyAt tallies who) turns bought sold
 
 -- what all tenants have done together
 abbrev pub inAll : (Tally → ℕ) → List Tally → ℕ
-inAll f tallies = sumTo (λ t. f (tallyAt tallies t)) 9
+inAll f tallies = sumTo (λ t. f (tallyAt tallies t)) tenants
 
 abbrev pub turnsInAll : List Tally → ℕ
 turnsInAll = inAll (λ x. x .turns)
+
+-- 1,000,000,000,000,000,000 turns in all: from there on none is taken
+abbrev pub mostTurns : ℕ
+mostTurns = 1000000000000000000
 
 abbrev pub boughtInAll : List Tally → ℕ
 boughtInAll = inAll (λ x. x .bought)
@@ -64,5 +69,5 @@ soldInAll = inAll (λ x. x .sold)
 
 -- there are nine, and the turns of all fit 64 bits
 pub record Fitting (tallies : List Tally) : Type 0 where
-  pub long : length tallies ≡ 9
+  pub long : length tallies ≡ tenants
   pub sum : turnsInAll tallies < 2 ^ 64

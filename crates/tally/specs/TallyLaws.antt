@@ -7,12 +7,15 @@ use native.Mathlib.Nat.{add-assoc, add-zero, zero-add}
 use native.Mathlib.Decide.{ℕ-discrete}
 use native.Mathlib.Omega.{arith}
 use borrow.Author.Tests.{eq-eqb, ne-eqb}
+use lib.Dec.{eqb}
 use lib.ListN.{length, set, length-set, getD-replicate}
 use lib.Seq.{getD-set-same, getD-set-other, ext-getD}
-use Rattle.units.specs.Sums.{sumTo, sum-add, sum-has, sum-none}
+use Rattle.units.specs.Units.{tenants}
+use Rattle.units.specs.Sums.{sumTo, sum-add, sum-has, sum-none, sum-only}
+use Rattle.units.specs.Picked.{keep-none}
 use Rattle.tally.specs.declared.Tally.{Tally}
 use Rattle.tally.specs.Tallies as tallies
-use Rattle.tally.specs.Tallies.{plus, tallyAt, noTallies, addedFrom, added, onlyFor, counted, inAll}
+use Rattle.tally.specs.Tallies.{plus, tallyAt, noTallies, addedFrom, added, onlyFor, counted, inAll, turnsInAll, boughtInAll, soldInAll}
 
 module _ (turns bought sold : ℕ → ℕ) where
   pub added-length : (t : ℕ) (xs : List Tally) → length (addedFrom t turns bought sold xs) ≡ length xs
@@ -104,17 +107,49 @@ counted-is xs who a b c h =
 
 -- what all have done, after adding
 pub in-all-added :
-    (field : Tally → ℕ) (turns bought sold d : ℕ → ℕ) (xs : List Tally) → length xs ≡ 9 →
+    (field : Tally → ℕ) (turns bought sold d : ℕ → ℕ) (xs : List Tally) → length xs ≡ tenants →
     ((x : Tally) (u : ℕ) → field (plus x (turns u) (bought u) (sold u)) ≡ field x + d u) →
-    inAll field (added turns bought sold xs) ≡ inAll field xs + sumTo d 9
+    inAll field (added turns bought sold xs) ≡ inAll field xs + sumTo d tenants
 in-all-added field turns bought sold d xs l h =
-    sum-add (λ t. field (tallyAt xs t)) d 9
+    sum-add (λ t. field (tallyAt xs t)) d tenants
     (λ t p. ap field (added-at turns bought sold xs t (omega arith)) ∙ h (tallyAt xs t) t)
 
 -- no tenant has done more than all
-pub in-all-has : (field : Tally → ℕ) (xs : List Tally) (u : ℕ) → u < 9 → field (tallyAt xs u) ≤ inAll field xs
-in-all-has field xs u h = sum-has (λ t. field (tallyAt xs t)) 9 u h
+pub in-all-has : (field : Tally → ℕ) (xs : List Tally) (u : ℕ) → u < tenants → field (tallyAt xs u) ≤ inAll field xs
+in-all-has field xs u h = sum-has (λ t. field (tallyAt xs t)) tenants u h
 
 -- no tenant has done anything
 pub in-all-none : (field : Tally → ℕ) → field tallies.zero ≡ 0 → inAll field noTallies ≡ 0
-in-all-none field h = sum-none 9 (λ t p. ap field (getD-replicate 9 t tallies.zero tallies.zero p) ∙ h)
+in-all-none field h = sum-none tenants (λ t p. ap field (getD-replicate tenants t tallies.zero tallies.zero p) ∙ h)
+
+-- nothing for anybody
+pub only-none : (who u : ℕ) → onlyFor who 0 u ≡ 0
+only-none who u = keep-none (eqb u who)
+
+-- all that is for one tenant
+pub only-sum : (who n : ℕ) → who < tenants → sumTo (onlyFor who n) tenants ≡ n
+only-sum who n h = sum-only (onlyFor who n) tenants who h (λ u _ d. only-other who n u d) ∙ only-own who n
+
+-- a turn counts for one tenant, and nothing else is counted with it
+module _ (tallies : List Tally) (t : ℕ) (long : length tallies ≡ tenants) where
+  abbrev none : ℕ → ℕ
+  none u = onlyFor t 0 u
+
+  pub turn-counts : t < tenants → turnsInAll (counted tallies t 1 0 0) ≡ turnsInAll tallies + 1
+  turn-counts h =
+      in-all-added (λ x. x .turns) (onlyFor t 1) none none (onlyFor t 1) tallies long (λ x u. refl)
+      ∙ ap (λ n. turnsInAll tallies + n) (only-sum t 1 h)
+
+  pub turn-bought : boughtInAll (counted tallies t 1 0 0) ≡ boughtInAll tallies
+  turn-bought = omega (
+    arith,
+    in-all-added (λ x. x .bought) (onlyFor t 1) none none none tallies long (λ x u. refl),
+    sum-none {f = none} tenants (λ u _. only-none t u),
+  )
+
+  pub turn-sold : soldInAll (counted tallies t 1 0 0) ≡ soldInAll tallies
+  turn-sold = omega (
+    arith,
+    in-all-added (λ x. x .sold) (onlyFor t 1) none none none tallies long (λ x u. refl),
+    sum-none {f = none} tenants (λ u _. only-none t u),
+  )

@@ -1,4 +1,5 @@
 // The tallies of the nine tenants: turns taken, contracts bought, contracts sold, each added to where it stands.
+use units::TENANTS;
 ghost use mathlib.Core.Path.{_≡_};
 ghost use Rattle.tally.specs.Tallies.{plus, fits, noTallies, Countable, counted, turnsInAll, Fitting};
 
@@ -8,6 +9,9 @@ pub struct Tally {
     pub bought: u64,
     pub sold: u64,
 }
+
+// The tallies, tenant by tenant.
+pub type Tallies = [Tally; TENANTS];
 
 // The sum, by value.
 fn summed(t: Tally, turns: u64, bought: u64, sold: u64) -> Tally
@@ -40,7 +44,7 @@ fn added(t: Tally, turns: u64, bought: u64, sold: u64) -> Tally
 }
 
 // No tenant has done anything.
-pub fn none() -> [Tally; 9]
+pub fn none() -> Tallies
     ensures { λ r. ⌜ r ≡ noTallies ⌝ }
 {
     let zero = Tally {
@@ -48,11 +52,11 @@ pub fn none() -> [Tally; 9]
         bought: 0,
         sold: 0,
     };
-    [zero; 9]
+    [zero; TENANTS]
 }
 
 // One tenant's tally is added to.
-pub fn count(tallies: [Tally; 9], who: usize, turns: u64, bought: u64, sold: u64) -> [Tally; 9]
+pub fn count(tallies: Tallies, who: usize, turns: u64, bought: u64, sold: u64) -> Tallies
     requires { ⌜ Countable tallies who turns bought sold ⌝ }
     ensures { λ r. ⌜ r ≡ counted tallies who turns bought sold ⌝ }
 {
@@ -64,13 +68,13 @@ pub fn count(tallies: [Tally; 9], who: usize, turns: u64, bought: u64, sold: u64
 }
 
 // Turns taken in all.
-pub fn turns_in_all(tallies: [Tally; 9]) -> u64
+pub fn turns_in_all(tallies: Tallies) -> u64
     requires { ⌜ Fitting tallies ⌝ }
     ensures { λ r. ⌜ r ≡ turnsInAll tallies ⌝ }
 {
     let mut sum: u64 = 0;
     let mut i: usize = 0;
-    while i < 9 {
+    while i < TENANTS {
         let t = tallies[i];
         sum += t.turns;
         i += 1;

@@ -8,7 +8,8 @@ use Rattle.units.specs.Units.{cents}
 use Rattle.numeral.specs.declared.Number.{Number}
 use Rattle.numeral.specs.declared.Number.the-variants as number
 use Rattle.numeral.specs.Number.{numberAt}
-use Rattle.entry.specs.Numbers.{from1to}
+use Rattle.entry.specs.Numbers.{entryNumbers, bulk, from1to}
+use Rattle.entry.specs.declared.Away as entry-away
 use Rattle.entry.specs.declared.Settings as entry
 use Rattle.tape.specs.declared.Event.{Event}
 use Rattle.tape.specs.declared.Event.the-variants.{Settings, Away, Submit, Turn, Open}
@@ -44,21 +45,20 @@ settingsOf v = record {
 }
 
 -- settings are eleven numbers
+abbrev pub settingsNumbers : ℕ
+settingsNumbers = 11
+
 unfoldable pub settings : Form
-settings = numbers 11 (λ v. whole (Settings (settingsOf v)))
+settings = numbers settingsNumbers (λ v. whole (Settings (settingsOf v)))
 
 -- away (bid, offer)
+abbrev pub awayOf : List ℕ → entry-away.Away
+awayOf v = record { bid = cents (getD v 0 0); offer = cents (getD v 1 0) }
+
 unfoldable pub away : Form
-away = more (λ bid. more (λ offer. whole (Away (record { bid = cents bid; offer = cents offer }))))
+away = numbers 2 (λ v. whole (Away (awayOf v)))
 
--- a bulk message is 1 to 20 entries, and an entry six numbers
-abbrev pub bulk : ℕ
-bulk = 20
-
-abbrev pub entryNumbers : ℕ
-entryNumbers = 6
-
--- 34 a count not 1 to 20
+-- a bulk's entries, in numbers; 34 a count not 1 to 20
 unfoldable pub entries : ℕ → ℕ → Form
 entries tenant count = cond (from1to bulk count) (numbers (entryNumbers * count) (λ v. whole (Submit tenant count))) (bad 34)
 
@@ -66,14 +66,32 @@ entries tenant count = cond (from1to bulk count) (numbers (entryNumbers * count)
 unfoldable pub submit : Form
 submit = more (λ tenant. more (entries tenant))
 
--- 1 settings, 2 away, 3 submit, 4 turn, 5 open; 33 is another event number
+-- a kind of event: its number, and how it is spelt behind that
+infix 20 _spelt_
+pub record Kind : Type 0 where
+  pub number : ℕ
+  pub form : Form
+
+abbrev pub _spelt_ : ℕ → Form → Kind
+n spelt form = record { number = n; form = form }
+
+-- 1 settings, 2 away, 3 submit, 4 turn, 5 open
+abbrev pub kinds : List Kind
+kinds =
+    (1 spelt settings)
+    ∷ (2 spelt away)
+    ∷ (3 spelt submit)
+    ∷ (4 spelt whole Turn)
+    ∷ (5 spelt whole Open)
+    ∷ []
+
+-- how the kind of a number is spelt; 33 is another event number
+unfoldable pub formIn : List Kind → ℕ → Form
+formIn [] n = bad 33
+formIn (k ∷ ks) n = cond (eqb n (k .number)) (k .form) (formIn ks n)
+
 unfoldable pub formOf : ℕ → Form
-formOf kind =
-    cond (eqb kind 1) settings
-    (cond (eqb kind 2) away
-    (cond (eqb kind 3) submit
-    (cond (eqb kind 4) (whole Turn)
-    (cond (eqb kind 5) (whole Open) (bad 33)))))
+formOf n = formIn kinds n
 
 unfoldable pub event : Form
 event = more formOf

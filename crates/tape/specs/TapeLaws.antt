@@ -1,5 +1,5 @@
--- Where an event ends, and what of a tape it depends on: 615 bytes from its place are enough, and bytes before it move
--- its place alone. So a program may read a tape of any length through a buffer.
+-- Where an event ends, and what of a tape it depends on: the bytes of the longest event from its place on are enough,
+-- and bytes before it move its place alone. So a program may read a tape of any length through a buffer.
 use mathlib.Core.Path.{_≡_, refl, sym, ap, _∙_}
 use mathlib.Core.Logic.{_⊎_, inl, inr, ⊎-elim}
 use mathlib.Core.List.{List, [], _∷_, _++_, append-nil}
@@ -8,7 +8,7 @@ use native.Mathlib.Omega.{arith}
 use borrow.Author.Tests.{lt-ltb, le-ltb}
 use lib.ListN.{length, length-append}
 use Rattle.numeral.specs.declared.Number.the-variants as number
-use Rattle.numeral.specs.Number.{numberAt}
+use Rattle.numeral.specs.Number.{groups, numberAt}
 use Rattle.numeral.specs.Cases.{below}
 use Rattle.numeral.specs.Cases as number-cases
 use Rattle.numeral.specs.Laws as number-laws
@@ -18,7 +18,7 @@ use Rattle.tape.specs.declared.Event.{Event}
 use Rattle.tape.specs.declared.Reading.{Reading}
 use Rattle.tape.specs.declared.Reading.the-variants.{Read, Refused, End}
 use Rattle.tape.specs.Tape.{Form, whole, bad, more, formOf, event, reading, numbersAt, eventAt, entriesOf, stored, entriesAfter}
-use Rattle.tape.specs.Depth.{Within, more-within, mostNumbers, form-within, event-within}
+use Rattle.tape.specs.Depth.{Within, more-within, mostBehind, mostNumbers, mostBytes, form-within, event-within}
 
 -- no answer is of two kinds
 pub refused-read : (code place : ℕ) (e : Event) (end : ℕ) → Refused code place ≡ Read e end → ⊥
@@ -53,7 +53,7 @@ event-of-form s at e end q =
 
 place-in :
     (n : ℕ) (form : Form) (s : List ℕ) (last at : ℕ) (e : Event) (end : ℕ) → Within n form → reading form s last at ≡ Read e end →
-    (at ≤ end) × (end ≤ at + 5 * n) × (at ≤ length s → end ≤ length s)
+    (at ≤ end) × (end ≤ at + groups * n) × (at ≤ length s → end ≤ length s)
 unfolding reading
 place-in n (whole _) s last at e end w q = let p : at ≡ end = cc in (omega arith, omega arith, λ h. omega arith)
 place-in n (bad code) s last at e end w q = absurd (refused-read code last e end q)
@@ -67,17 +67,14 @@ place-in (suc n) (more f) s last at e end (more-within w) q =
       | is-refused code p ↦ absurd (refused-read code at e end (rw p at q))
     ]
 
--- an event ends past its start and on the tape, and takes 123 numbers of five bytes at most
-abbrev pub mostBytes : ℕ
-mostBytes = 5 * mostNumbers
-
+-- an event ends past its start and on the tape, and not past the bytes of the longest event
 pub place : (s : List ℕ) (at : ℕ) (e : Event) (end : ℕ) → eventAt s at ≡ Read e end → (at < end) × (end ≤ length s) × (end ≤ at + mostBytes)
 unfolding reading event
 place s at e end q =
     let f = of-form s at e end q in
     elim (answer (numberAt s at)) [
       | is-read v next p ↦
-          (let i = place-in 122 (formOf v) s at next e end (form-within v) (rw p at f) in
+          (let i = place-in mostBehind (formOf v) s at next e end (form-within v) (rw p at f) in
           let m = number-laws.place s at v next p in
           (omega (arith, i .0, m .0), i .2 (m .1), omega (arith, i .1, longest s at v next p)))
       | is-refused code p ↦ absurd (refused-read code at e end (rw p at f))
@@ -104,9 +101,9 @@ on-in (more f) s rest last at n =
     read-not-refused : {v next code : ℕ} → number.Read v next ≡ number.Refused code → ⊥
     read-not-refused {v} {next} {code} q = number-cases.refused-read code v next (sym q)
 
--- and neither do they where 615 bytes stand from its place on, or as many as its form may take
+-- and neither do they where as many stand from its place on as its form may take
 window-in :
-    (n : ℕ) (form : Form) (s rest : List ℕ) (last at : ℕ) → Within n form → at + 5 * n ≤ length s →
+    (n : ℕ) (form : Form) (s rest : List ℕ) (last at : ℕ) → Within n form → at + groups * n ≤ length s →
     (reading form (s ++ rest) last at ≡ reading form s last at) × (numbersAt form (s ++ rest) at ≡ numbersAt form s at)
 unfolding reading numbersAt
 window-in n (whole e) s rest last at w h = (refl, refl)
@@ -142,7 +139,7 @@ goes-on s rest at n m =
     (λ h. absurd (n (past-tape s at h)))
     (below at (length s))
 
--- 615 bytes from the place on are enough
+-- the bytes of the longest event from the place on are enough
 pub window : (s rest : List ℕ) (at : ℕ) → at + mostBytes ≤ length s → SameAt s (s ++ rest) at
 window s rest at h = same-at s rest at (omega arith) (window-in mostNumbers event s rest at at event-within h)
 
@@ -186,8 +183,8 @@ event-moved front s at =
       λ out. ap (λ (vs : List ℕ). stored (entriesOf vs) out) (i .1),
     )
 
--- so a tape may be read through a buffer that holds a part of it: with 615 bytes left in the buffer, or all that the
--- tape has, the event in the buffer is the tape's
+-- so a tape may be read through a buffer that holds a part of it: with the bytes of the longest event left in the
+-- buffer, or all that the tape has, the event in the buffer is the tape's
 pub buffered :
     (front buffer rest : List ℕ) (at : ℕ) → (at + mostBytes ≤ length buffer) ⊎ (rest ≡ []) →
     (eventAt (front ++ (buffer ++ rest)) (length front + at) ≡ moved (length front) (eventAt buffer at)) ×

@@ -4,13 +4,17 @@ use crate::Reading;
 use crate::several::Several;
 use crate::several::read_several;
 use entry::Away;
+use entry::BULK;
+use entry::ENTRY_NUMBERS;
 use entry::Settings;
 use numeral::Number;
 use units::Cents;
 use units::words::both;
 ghost use mathlib.Core.Path.{_≡_};
+ghost use mathlib.Core.List.{_∷_};
+ghost use Prim.Native.Nat.{ℕ};
 ghost use lib.ListN.{drop};
-ghost use Rattle.tape.specs.Tape.{settingsOf, settings, away, submit, reading, numbersAt, stored, eventAt, entriesAfter};
+ghost use Rattle.tape.specs.Tape.{settingsOf, settings, away, submit, formOf, reading, numbersAt, entriesOf, stored, eventAt, entriesAfter};
 ghost use Rattle.tape.specs.Several.{afterSeveral};
 
 pub const NO_SUCH_EVENT: u32 = 33;
@@ -28,14 +32,11 @@ const TURN: u32 = 4;
 
 const OPEN: u32 = 5;
 
-// The most entries of a bulk.
-const BULK: u32 = 20;
-
-// The numbers of an entry.
-const NUMBERS: usize = 6;
-
 // The numbers of the settings.
-const VALUES: usize = 11;
+const SETTINGS_NUMBERS: usize = 11;
+
+// The numbers of an away quote.
+const AWAY_NUMBERS: usize = 2;
 
 // The event that several numbers make, or the refusal of the one that is bad.
 fn made(all: Several, event: Event) -> Reading
@@ -48,7 +49,7 @@ fn made(all: Several, event: Event) -> Reading
 }
 
 // The settings come in this order.
-fn settings_of(v: [u32; 11]) -> Settings
+fn settings_of(v: [u32; SETTINGS_NUMBERS]) -> Settings
     ensures { λ r. ⌜ r ≡ settingsOf v ⌝ }
 {
     Settings {
@@ -67,34 +68,28 @@ fn settings_of(v: [u32; 11]) -> Settings
 }
 
 fn settings(s: &[u8], at: usize) -> Reading
-    ensures { λ r. ⌜ r ≡ reading settings (now (s .entry)) at at ⌝ }
+    ensures { λ r. ⌜ ((last : ℕ) → r ≡ reading settings (now (s .entry)) last at) ⌝ }
 {
-    let mut values = [0u32; 11];
-    let all = read_several(s, at, VALUES, &mut values);
+    let mut values = [0u32; SETTINGS_NUMBERS];
+    let all = read_several(s, at, SETTINGS_NUMBERS, &mut values);
     made(all, Event::Settings(settings_of(values)))
 }
 
 fn away(s: &[u8], at: usize) -> Reading
-    ensures { λ r. ⌜ r ≡ reading away (now (s .entry)) at at ⌝ }
+    ensures { λ r. ⌜ ((last : ℕ) → r ≡ reading away (now (s .entry)) last at) ⌝ }
 {
-    let first = numeral::read(s, at);
-    let Number::Read(bid, next) = first else {
-        return Reading::Refused(numeral::refusal(first), at);
-    };
-    let second = numeral::read(s, next);
-    let Number::Read(offer, end) = second else {
-        return Reading::Refused(numeral::refusal(second), next);
-    };
+    let mut two = [0u32; AWAY_NUMBERS];
+    let all = read_several(s, at, AWAY_NUMBERS, &mut two);
     let quote = Away {
-        bid: Cents(bid),
-        offer: Cents(offer),
+        bid: Cents(two[0]),
+        offer: Cents(two[1]),
     };
-    Reading::Read(Event::Away(quote), end)
+    made(all, Event::Away(quote))
 }
 
 // The count is asked as soon as it is read; then the entries' numbers go into the lent memory.
 fn submit(s: &[u8], at: usize, numbers: &mut [u32]) -> Reading
-    ensures answer { λ r. ⌜ r ≡ reading submit (now (s .entry)) at at ⌝ }
+    ensures answer { λ r. ⌜ ((last : ℕ) → r ≡ reading submit (now (s .entry)) last at) ⌝ }
     ensures entries { λ _. ⌜ now (numbers .exit) ≡ stored (drop 2 (numbersAt submit (now (s .entry)) at)) (now (numbers .entry)) ⌝ }
 {
     let named = numeral::read(s, at);
@@ -106,10 +101,25 @@ fn submit(s: &[u8], at: usize, numbers: &mut [u32]) -> Reading
         return Reading::Refused(numeral::refusal(counted), next);
     };
     if both(1 <= count, count <= BULK) {
-        let all = read_several(s, from, NUMBERS * count as usize, numbers);
+        let all = read_several(s, from, ENTRY_NUMBERS * count as usize, numbers);
         made(all, Event::Submit(tenant, count))
     } else {
         Reading::Refused(NO_SUCH_COUNT, next)
+    }
+}
+
+// The event of a kind, its number at one place and the rest of it at the next.
+fn of_kind(kind: u32, s: &[u8], at: usize, next: usize, numbers: &mut [u32]) -> Reading
+    ensures answer { λ r. ⌜ r ≡ reading (formOf kind) (now (s .entry)) at next ⌝ }
+    ensures entries { λ _. ⌜ now (numbers .exit) ≡ stored (entriesOf (kind ∷ numbersAt (formOf kind) (now (s .entry)) next)) (now (numbers .entry)) ⌝ }
+{
+    match kind {
+        SETTINGS => settings(s, next),
+        AWAY => away(s, next),
+        SUBMIT => submit(s, next, numbers),
+        TURN => Reading::Read(Event::Turn, next),
+        OPEN => Reading::Read(Event::Open, next),
+        _ => Reading::Refused(NO_SUCH_EVENT, at),
     }
 }
 
@@ -126,12 +136,5 @@ pub fn event(s: &[u8], at: usize, numbers: &mut [u32]) -> Reading
     let Number::Read(kind, next) = told else {
         return Reading::Refused(numeral::refusal(told), at);
     };
-    match kind {
-        SETTINGS => settings(s, next),
-        AWAY => away(s, next),
-        SUBMIT => submit(s, next, numbers),
-        TURN => Reading::Read(Event::Turn, next),
-        OPEN => Reading::Read(Event::Open, next),
-        _ => Reading::Refused(NO_SUCH_EVENT, at),
-    }
+    of_kind(kind, s, at, next, numbers)
 }

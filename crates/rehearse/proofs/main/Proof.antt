@@ -6,6 +6,7 @@ use native.Mathlib.Omega.{arith}
 use lib.ListN.{length-replicate}
 use borrow.Author.Needs.{needs}
 use Rattle.book.specs.Book.{bookOf}
+use Rattle.entry.specs.Numbers.{bulkNumbers}
 use Rattle.session.specs.Market.{marketOf}
 use Rattle.rehearse.specs.Rehearsing.{Rehearsing, fewer, reads, writes, at-hand, can-step, place-fits, steps}
 use Rattle.rehearse.proofs.main.Statement.{statement}
@@ -22,7 +23,7 @@ loop-holds : tie.Need-loop-holds Inv-loop μ-loop
 loop-holds c = record {
   sound = c .before .before .new .ensures .1 _ _;
   records-long = length-replicate {A = ℕ} 864 0;
-  given-long = length-replicate {A = ℕ} 120 0;
+  given-long = length-replicate {A = ℕ} bulkNumbers 0;
   window-long = sym (c .before .large-buffer .ensures);
   out-long = sym (c .large-buffer2 .ensures);
   printed = omega arith;
@@ -50,8 +51,9 @@ main-spec =
     (λ c κs.
     let r = c .before .before .before .before .before .loop .inv in
     (r .begun, (omega (arith, r .within, r .window-long), omega (arith, r .bounded, r .begun, r .within))))
-    (λ c. fewer _ (c .before .before .before .before .before .before .loop-test .taken))
-    (λ c. reads (c .before .before .before .before .before .before .before .loop .inv) (c .before .before .before .before .before .before .loop-test .taken) (c .before .refill .ensures))
+    (λ c κs. search needs)
+    (λ c. fewer _ (c .before .before .before .before .before .before .before .loop-test .taken))
+    (λ c. reads (c .before .before .before .before .before .before .before .before .loop .inv) (c .before .before .before .before .before .before .before .loop-test .taken) (c .before .before .refill .ensures))
     (λ c. c .before .before .before .before .loop .inv .printed)
     (λ c. sym (c .before .before .before .before .before .before .loop .inv .out-long))
     (λ c κs. let r = c .before .before .before .before .before .before .loop .inv in omega (arith, r .printed, r .out-long))

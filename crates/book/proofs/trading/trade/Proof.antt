@@ -10,7 +10,7 @@ returns : tie.Need-returns
 returns c =
     let s = c .before .before .before .before in
     let a = s .args in
-    let n = sym (c .before .before .standing .ensures) ∙ c .before .if1 .taken in
+    let n = sym (c .before .before .resting-within .ensures) ∙ c .before .if1 .taken in
     (nothing-left (a .sides .now) (a .prices .now) (a .sizes .now) (a .owners .now) (a .numbers .now) (s .pre .0) (a .side) (a .bound .0) (a .q .0) (a .allocation) n, (nothing-written (a .sides .now) (a .prices .now) (a .sizes .now) (a .owners .now) (a .numbers .now) (s .pre .0) (a .side) (a .bound .0) (a .q .0) (a .allocation) n _ (s .pre .1), (nothing-shared (a .sides .now) (a .prices .now) (a .sizes .now) (a .owners .now) (a .numbers .now) (s .pre .0) (a .side) (a .bound .0) (a .q .0) (a .allocation) n, trade-answers (a .sides .now) (a .prices .now) (a .sizes .now) (a .owners .now) (a .numbers .now) (s .pre .0) (a .side) (a .bound .0) (a .q .0) (a .allocation) _ _ (nothing-filled (a .sides .now) (a .prices .now) (a .sizes .now) (a .owners .now) (a .numbers .now) (s .pre .0) (a .side) (a .bound .0) (a .q .0) (a .allocation) n) (nothing-counted (a .sides .now) (a .prices .now) (a .sizes .now) (a .owners .now) (a .numbers .now) (s .pre .0) (a .side) (a .bound .0) (a .q .0) (a .allocation) n))))
 
 record-requires : tie.Need-record-requires
@@ -23,8 +23,8 @@ returns-2 : tie.Need-returns-2
 returns-2 c =
     let recording = c .before .before .before .before in
     let sharing = recording .before .before .before in
-    let standing = sharing .before .before .before in
-    let s = standing .before .before in
+    let summed = sharing .before .before .before in
+    let s = summed .before .before in
     let a = s .args in
     let are = sharing .shares .ensures in (
       trade-leaves (a .sides .now) (a .prices .now) (a .sizes .now) (a .owners .now) (a .numbers .now) (s .pre .0) (a .side) (a .bound .0) (a .q .0) (a .allocation) _ are _ (c .before .remove .ensures),
@@ -32,7 +32,7 @@ returns-2 c =
         trade-writes (a .sides .now) (a .prices .now) (a .sizes .now) (a .owners .now) (a .numbers .now) (s .pre .0) (a .side) (a .bound .0) (a .q .0) (a .allocation) _ are _ _ (recording .record .ensures .0),
         (
           trade-shares (a .sides .now) (a .prices .now) (a .sizes .now) (a .owners .now) (a .numbers .now) (s .pre .0) (a .side) (a .bound .0) (a .q .0) (a .allocation) _ are,
-          trade-answers (a .sides .now) (a .prices .now) (a .sizes .now) (a .owners .now) (a .numbers .now) (s .pre .0) (a .side) (a .bound .0) (a .q .0) (a .allocation) _ _ (trade-fills (a .sides .now) (a .prices .now) (a .sizes .now) (a .owners .now) (a .numbers .now) (s .pre .0) (a .side) (a .bound .0) (a .q .0) (a .allocation) _ _ (c .fillable .ensures) (standing .standing .ensures)) (trade-counts (a .sides .now) (a .prices .now) (a .sizes .now) (a .owners .now) (a .numbers .now) (s .pre .0) (a .side) (a .bound .0) (a .q .0) (a .allocation) _ are _ (recording .record .ensures .1)),
+          trade-answers (a .sides .now) (a .prices .now) (a .sizes .now) (a .owners .now) (a .numbers .now) (s .pre .0) (a .side) (a .bound .0) (a .q .0) (a .allocation) _ _ (trade-fills (a .sides .now) (a .prices .now) (a .sizes .now) (a .owners .now) (a .numbers .now) (s .pre .0) (a .side) (a .bound .0) (a .q .0) (a .allocation) _ _ (c .fillable .ensures) (summed .resting-within .ensures)) (trade-counts (a .sides .now) (a .prices .now) (a .sizes .now) (a .owners .now) (a .numbers .now) (s .pre .0) (a .side) (a .bound .0) (a .q .0) (a .allocation) _ are _ (recording .record .ensures .1)),
         ),
       ),
     )

@@ -1,5 +1,5 @@
--- `judge::bound::higher` meets its contract, by the test and by which is less.
-use native.Mathlib.Omega.{arith}
+-- `judge::bound::higher` meets its contract, by the test.
+use borrow.Author.Needs.{needs}
 use Rattle.units.specs.Tests.{pick}
 use Rattle.units.specs.Cases.{higherIf}
 use Rattle.judge.proofs.bound.higher.Statement.{statement}
@@ -10,6 +10,6 @@ unfolding pick higherIf
 higher-spec =
     tie.close
     (tie.spec
-    (λ c. rw (c .before .if1 .taken) (omega arith))
-    (λ c. rw (c .before .if1 .taken) (omega arith))
-    (λ c. rw (c .if1 .left) (omega arith)))
+    (λ c κs. search needs)
+    (λ c. rw (c .before .if1 .taken) (c .greater .ensures))
+    (λ c. rw (c .if1 .left)))

@@ -1,5 +1,6 @@
--- `judge::bound::lower` meets its contract, by the test and by which is less.
+-- `judge::bound::lower` meets its contract, by the test.
 use native.Mathlib.Omega.{arith}
+use borrow.Author.Needs.{needs}
 use Rattle.units.specs.Tests.{pick}
 use Rattle.units.specs.Cases.{lowerIf}
 use Rattle.judge.proofs.bound.lower.Statement.{statement}
@@ -10,7 +11,7 @@ unfolding pick lowerIf
 lower-spec =
     tie.close
     (tie.spec
-    (λ c. omega arith)
-    (λ c. rw (c .before .if1 .taken) (omega arith))
-    (λ c. rw (c .before .if1 .taken) (omega arith))
-    (λ c. rw (c .if1 .left) (omega arith)))
+    (λ c κs. search needs)
+    (λ c. omega (arith, c .lesser-wide .ensures))
+    (λ c. rw (c .before .if1 .taken) (c .lesser-wide .ensures))
+    (λ c. rw (c .if1 .left)))

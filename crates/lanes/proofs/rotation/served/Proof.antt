@@ -5,8 +5,8 @@ use Prim.Native.Nat.{_+_, _%_, _-_}
 use native.Mathlib.Omega.{arith}
 use borrow.Author.Needs.{needs}
 use borrow.Author.Tests.{lt-ltb, le-ltb}
+use Rattle.units.specs.Units.{tenants}
 use Rattle.units.specs.Loops.{Sought, seek-starts, seek-goes-on, seek-finds, seek-ends}
-use Rattle.lanes.specs.Ring.{tenants}
 use Rattle.lanes.specs.Rotation.{on, waits, distance, served}
 use Rattle.lanes.specs.RotationLaws.{served-lane, served-nobody}
 use Rattle.lanes.proofs.rotation.served.Statement.{statement}
@@ -26,7 +26,7 @@ unfolding distance served
 returns c =
     let l = c .before .before .before .before .args .t1 in
     let o = c .before .before .before .loop in
-    let e : (l .place % 9 + o .d) % 9 ≡ on (l .place) (o .d) = omega arith in
+    let e : (l .place % tenants + o .d) % tenants ≡ on (l .place) (o .d) = omega arith in
     let busy : waits l (on (l .place) (o .d)) ≡ true = rw (← e) (lt-ltb _ _ (c .if1 .taken)) in
     let d : o .d ≡ distance (waits l) (l .place) = seek-finds _ _ (o .d) (o .inv) (omega arith) busy in
     rw (served-lane (waits l) (l .place) (omega arith), ← d, e)
@@ -35,7 +35,7 @@ loop-again : tie.Need-loop-again Inv-loop μ-loop
 loop-again c =
     let l = c .before .before .before .before .args .t1 in
     let o = c .before .before .before .loop in
-    let e : (l .place % 9 + o .d) % 9 ≡ on (l .place) (o .d) = omega arith in
+    let e : (l .place % tenants + o .d) % tenants ≡ on (l .place) (o .d) = omega arith in
     seek-goes-on _ _ (o .d) (o .inv) (omega arith) (rw (← e) (le-ltb _ _ (c .if1 .left)))
 
 returns-2 : tie.Need-returns-2 Inv-loop μ-loop

@@ -8,14 +8,15 @@ use Rattle.levels.specs.Levels.{keysOn, opensOn, larger}
 use Rattle.rows.specs.Rows.{rows}
 use Rattle.units.specs.Loops.{Passed, sum-starts, sum-goes-on, sum-ends}
 use Rattle.units.specs.Places.{at}
+use Rattle.units.specs.Units.{most32}
 use Rattle.levels.proofs.passes.rank.Statement.{statement}
 use Rattle.levels.proofs.passes.rank.Tie as tie
 
 abbrev Inv-loop : tie.InvT-loop
-Inv-loop side bound c s n sides prices sizes numbers count₀ i₀ count i = Passed rows (larger (keysOn side (at prices)) (opensOn side bound (at sides) (at prices) (at sizes)) (at numbers) c s n) i count × (count ≤ i * 4294967295)
+Inv-loop side bound c s n sides prices sizes numbers count₀ i₀ count i = Passed rows (larger (keysOn side (at prices)) (opensOn side bound (at sides) (at prices) (at sizes)) (at numbers) c s n) i count × (count ≤ i * most32)
 
 abbrev μ-loop : tie.MeasureT-loop
-μ-loop side bound c s n sides prices sizes numbers count₀ i₀ count i = 216 - i
+μ-loop side bound c s n sides prices sizes numbers count₀ i₀ count i = rows - i
 
 pub rank-spec : {M : Type 1} → statement M
 rank-spec =

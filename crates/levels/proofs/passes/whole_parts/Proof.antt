@@ -9,14 +9,15 @@ use Rattle.rows.specs.Rows.{rows}
 use Rattle.units.specs.Loops.{Passed, sum-starts, sum-goes-on, sum-ends}
 use Rattle.units.specs.Picked.{same, same-term}
 use Rattle.units.specs.Places.{at}
+use Rattle.units.specs.Units.{most32}
 use Rattle.levels.proofs.passes.whole_parts.Statement.{statement}
 use Rattle.levels.proofs.passes.whole_parts.Tie as tie
 
 abbrev Inv-loop : tie.InvT-loop
-Inv-loop side bound c left total sides prices sizes sum₀ i₀ sum i = Passed rows (same (keysOn side (at prices)) c (wholes left total (opensOn side bound (at sides) (at prices) (at sizes)))) i sum × (sum ≤ i * 4294967295)
+Inv-loop side bound c left total sides prices sizes sum₀ i₀ sum i = Passed rows (same (keysOn side (at prices)) c (wholes left total (opensOn side bound (at sides) (at prices) (at sizes)))) i sum × (sum ≤ i * most32)
 
 abbrev μ-loop : tie.MeasureT-loop
-μ-loop side bound c left total sides prices sizes sum₀ i₀ sum i = 216 - i
+μ-loop side bound c left total sides prices sizes sum₀ i₀ sum i = rows - i
 
 pub whole-parts-spec : {M : Type 1} → statement M
 whole-parts-spec =

@@ -15,7 +15,7 @@ whole-spec =
     (λ c κs. search needs)
     (λ c κs. search needs)
     (λ c κs. search needs)
-    (λ c. record { fits = rw (c .before .wide2 .ensures, c .wide3 .ensures) (product-fits _ _ (c .before .before .before .before .fits .left .fits) (c .before .before .before .before .fits .size .fits)) })
+    (λ c. record { fits = rw (c .before .wide2 .ensures, c .wide3 .ensures) (let s = c .before .before .before .before in product-fits (s .args .left) (s .args .size) (omega (arith, s .fits .left .fits)) (omega (arith, s .fits .size .fits))) })
     (λ c. search needs)
     (λ c. let a = c .before .before .before .before .args in rw (c .before .wide2 .ensures, c .wide3 .ensures) (omega (arith, share-most (a .left) (a .size) (a .total) (omega (arith, c .before .before .before .wide .ensures, c .before .before .if1 .left)))))
     (λ c. simp (le-leb _ _ (rw (c .before .wide .ensures) at (c .if1 .taken))))

@@ -1,6 +1,6 @@
 -- `opening::cancels::buy_cut` meets its contract, test by test.
 use borrow.Author.Tests.{eq-eqb, ne-eqb}
-use Rattle.opening.specs.Cancels.{buyCut}
+use Rattle.opening.specs.Opening.{buyCut}
 use Rattle.opening.proofs.cancels.buy_cut.Statement.{statement}
 use Rattle.opening.proofs.cancels.buy_cut.Tie as tie
 

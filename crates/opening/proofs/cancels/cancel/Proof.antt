@@ -4,7 +4,7 @@ use mathlib.Core.Path.{_≡_}
 use Prim.Native.Nat.{_-_}
 use native.Mathlib.Nat.{le-refl}
 use borrow.Author.Needs.{needs}
-use Rattle.opening.specs.Cancels.{keptBy, cutOf}
+use Rattle.opening.specs.Opening.{keptBy, cutOf}
 use Rattle.rows.specs.Rows.{rows}
 use Rattle.units.specs.Loops.{Replaced, replace-starts, replace-goes-on, replace-ends}
 use Rattle.units.specs.Places.{at}

@@ -1,6 +1,6 @@
 -- `opening::cancels::kept` meets its contract, by which test says that the row goes.
 use borrow.Author.Needs.{needs}
-use Rattle.opening.specs.Cancels.{keptBy}
+use Rattle.opening.specs.Opening.{keptBy}
 use Rattle.opening.proofs.cancels.kept.Statement.{statement}
 use Rattle.opening.proofs.cancels.kept.Tie as tie
 

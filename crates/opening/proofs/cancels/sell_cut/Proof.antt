@@ -1,6 +1,6 @@
 -- `opening::cancels::sell_cut` meets its contract, test by test.
 use borrow.Author.Tests.{eq-eqb, ne-eqb}
-use Rattle.opening.specs.Cancels.{sellCut}
+use Rattle.opening.specs.Opening.{sellCut}
 use Rattle.opening.proofs.cancels.sell_cut.Statement.{statement}
 use Rattle.opening.proofs.cancels.sell_cut.Tie as tie
 

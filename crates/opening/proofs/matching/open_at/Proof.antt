@@ -9,7 +9,7 @@ lesser-of-requires : tie.Need-lesser-of-requires
 lesser-of-requires c κs =
     let s = c .before .before .before .before in
     let a = s .args in
-    volume-fits (a .price .0) (a .sides .now) (a .prices .now) (a .sizes .now) _ _ (s .pre .0 .small) (c .before .before .standing .ensures)
+    volume-fits (a .price .0) (a .sides .now) (a .prices .now) (a .sizes .now) _ _ (s .pre .0 .small) (c .before .before .resting-within .ensures)
 
 record-requires : tie.Need-record-requires
 record-requires c κs =
@@ -18,7 +18,7 @@ record-requires c κs =
     let buys = least .before .before .before in
     let s = buys .before .before in
     let a = s .args in
-    (opening-apart (a .sides .now) (a .prices .now) (a .sizes .now) (a .owners .now) (a .numbers .now) (s .pre .0) (a .price .0) _ _ _ (least .lesser-of .ensures) (buys .standing .ensures) (least .before .standing2 .ensures) _ (filling .fills-at .ensures), s .pre .1)
+    (opening-apart (a .sides .now) (a .prices .now) (a .sizes .now) (a .owners .now) (a .numbers .now) (s .pre .0) (a .price .0) _ _ _ (least .lesser-of .ensures) (buys .resting-within .ensures) (least .before .resting-within2 .ensures) _ (filling .fills-at .ensures), s .pre .1)
 
 returns : tie.Need-returns
 returns c =
@@ -28,12 +28,12 @@ returns c =
     let buys = least .before .before .before in
     let s = buys .before .before in
     let a = s .args in (
-      opening-leaves (a .sides .now) (a .prices .now) (a .sizes .now) (a .owners .now) (a .numbers .now) (s .pre .0) (a .price .0) _ _ _ (least .lesser-of .ensures) (buys .standing .ensures) (least .before .standing2 .ensures) _ (filling .fills-at .ensures) _ (c .before .before .remove .ensures) _ (c .cancel .ensures),
+      opening-leaves (a .sides .now) (a .prices .now) (a .sizes .now) (a .owners .now) (a .numbers .now) (s .pre .0) (a .price .0) _ _ _ (least .lesser-of .ensures) (buys .resting-within .ensures) (least .before .resting-within2 .ensures) _ (filling .fills-at .ensures) _ (c .before .before .remove .ensures) _ (c .cancel .ensures),
       (
-        opening-writes (a .sides .now) (a .prices .now) (a .sizes .now) (a .owners .now) (a .numbers .now) (s .pre .0) (a .price .0) _ _ _ (least .lesser-of .ensures) (buys .standing .ensures) (least .before .standing2 .ensures) _ (filling .fills-at .ensures) _ _ (recording .record .ensures .0),
+        opening-writes (a .sides .now) (a .prices .now) (a .sizes .now) (a .owners .now) (a .numbers .now) (s .pre .0) (a .price .0) _ _ _ (least .lesser-of .ensures) (buys .resting-within .ensures) (least .before .resting-within2 .ensures) _ (filling .fills-at .ensures) _ _ (recording .record .ensures .0),
         (
-          opening-shares (a .sides .now) (a .prices .now) (a .sizes .now) (a .owners .now) (a .numbers .now) (s .pre .0) (a .price .0) _ _ _ (least .lesser-of .ensures) (buys .standing .ensures) (least .before .standing2 .ensures) _ (filling .fills-at .ensures),
-          opening-answers (a .sides .now) (a .prices .now) (a .sizes .now) (a .owners .now) (a .numbers .now) (s .pre .0) (a .price .0) _ _ _ (least .lesser-of .ensures) (buys .standing .ensures) (least .before .standing2 .ensures) _ (filling .fills-at .ensures) _ (recording .record .ensures .1),
+          opening-shares (a .sides .now) (a .prices .now) (a .sizes .now) (a .owners .now) (a .numbers .now) (s .pre .0) (a .price .0) _ _ _ (least .lesser-of .ensures) (buys .resting-within .ensures) (least .before .resting-within2 .ensures) _ (filling .fills-at .ensures),
+          opening-answers (a .sides .now) (a .prices .now) (a .sizes .now) (a .owners .now) (a .numbers .now) (s .pre .0) (a .price .0) _ _ _ (least .lesser-of .ensures) (buys .resting-within .ensures) (least .before .resting-within2 .ensures) _ (filling .fills-at .ensures) _ (recording .record .ensures .1),
         ),
       ),
     )

@@ -1,8 +1,7 @@
 -- `replay::events::event` meets its contract, by which event it is.
 use borrow.Author.Needs.{needs}
-use Rattle.book.specs.Book.{bookOf}
-use Rattle.session.specs.Market.{Market, marketOf}
-use Rattle.session.specs.SubmitSound.{lanes-sound}
+use Rattle.session.specs.Market.{Market, marketLent}
+use Rattle.session.specs.SubmitSoundLaws.{lanes-sound}
 use Rattle.replay.specs.Replay.{eventPrinted}
 use Rattle.replay.specs.ReplayLaws.{known}
 use Rattle.replay.proofs.events.event.Statement.{statement}
@@ -12,7 +11,7 @@ use Rattle.replay.proofs.events.event.Tie as tie
 abbrev before : tie.Start → Market
 before c =
     let a = c .args in
-    marketOf (a .s) (bookOf (a .sides .now) (a .prices .now) (a .sizes .now) (a .owners .now) (a .numbers .now)) (a .entries .now)
+    marketLent (a .s) (a .sides) (a .prices) (a .sizes) (a .owners) (a .numbers) (a .entries)
 
 returns : tie.Need-returns
 unfolding eventPrinted

@@ -1,8 +1,7 @@
 -- `replay::events::turn_event` meets its contract: what the turn makes of the market, its line and its fills.
 use mathlib.Core.Path.{_≡_, ap}
 use native.Mathlib.Omega.{arith}
-use Rattle.book.specs.Book.{bookOf}
-use Rattle.session.specs.Market.{Market, marketOf}
+use Rattle.session.specs.Market.{Market, marketLent}
 use Rattle.session.specs.Turn.{TurnDone}
 use Rattle.replay.specs.Answers.{tenantOf, turn-served}
 use Rattle.replay.specs.ReplayLaws.{turn-replayed}
@@ -13,7 +12,7 @@ use Rattle.replay.proofs.events.turn_event.Tie as tie
 abbrev before : tie.Start → Market
 before c =
     let a = c .args in
-    marketOf (a .s) (bookOf (a .sides .now) (a .prices .now) (a .sizes .now) (a .owners .now) (a .numbers .now)) (a .entries .now)
+    marketLent (a .s) (a .sides) (a .prices) (a .sizes) (a .owners) (a .numbers) (a .entries)
 
 tenant-is : {d e : TurnDone} → d ≡ e → tenantOf (d .answer) ≡ tenantOf (e .answer)
 tenant-is e = ap (λ (x : TurnDone). tenantOf (x .answer)) e

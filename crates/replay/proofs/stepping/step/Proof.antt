@@ -1,8 +1,7 @@
 -- `replay::stepping::step` meets its contract, by what was read at the place.
 use mathlib.Core.Path.{refl}
 use borrow.Author.Needs.{needs}
-use Rattle.book.specs.Book.{bookOf}
-use Rattle.session.specs.Market.{Market, marketOf}
+use Rattle.session.specs.Market.{Market, marketLent}
 use Rattle.replay.specs.ListingLaws.{one-line}
 use Rattle.replay.specs.SteppingLaws.{refused-fits, step-read, step-refused, step-end}
 use Rattle.replay.proofs.stepping.step.Statement.{statement}
@@ -12,7 +11,7 @@ use Rattle.replay.proofs.stepping.step.Tie as tie
 abbrev before : tie.Start → Market
 before c =
     let a = c .args in
-    marketOf (a .s) (bookOf (a .sides .now) (a .prices .now) (a .sizes .now) (a .owners .now) (a .numbers .now)) (a .entries .now)
+    marketLent (a .s) (a .sides) (a .prices) (a .sizes) (a .owners) (a .numbers) (a .entries)
 
 returns : tie.Need-returns
 returns c =

@@ -14,7 +14,7 @@ abbrev Inv-loop : tie.InvT-loop
 Inv-loop sizes i₀ i = Sought rows (λ j. eqb (at sizes j) 0) i
 
 abbrev μ-loop : tie.MeasureT-loop
-μ-loop sizes i₀ i = 216 - i
+μ-loop sizes i₀ i = rows - i
 
 pub free-row-spec : {M : Type 1} → statement M
 unfolding freeRow

@@ -12,7 +12,7 @@ abbrev Inv-loop : tie.InvT-loop
 Inv-loop sides prices sizes most₀ i₀ most i = Climbed rows (λ j. buyPrice (at sides j) (at prices j) (at sizes j)) i most
 
 abbrev μ-loop : tie.MeasureT-loop
-μ-loop sides prices sizes most₀ i₀ most i = 216 - i
+μ-loop sides prices sizes most₀ i₀ most i = rows - i
 
 pub highest-buy-spec : {M : Type 1} → statement M
 unfolding highestBuy

@@ -12,7 +12,7 @@ abbrev Inv-loop : tie.InvT-loop
 Inv-loop sides prices sizes least₀ i₀ least i = Searched rows noPrice (λ j. sellPrice (at sides j) (at prices j) (at sizes j)) i least
 
 abbrev μ-loop : tie.MeasureT-loop
-μ-loop sides prices sizes least₀ i₀ least i = 216 - i
+μ-loop sides prices sizes least₀ i₀ least i = rows - i
 
 pub lowest-sell-spec : {M : Type 1} → statement M
 unfolding lowestSell

@@ -13,7 +13,7 @@ abbrev Inv-loop : tie.InvT-loop
 Inv-loop owners numbers sizes tenant number i₀ i = Sought rows (λ j. isOrder tenant number (at owners j) (at numbers j) (at sizes j)) i
 
 abbrev μ-loop : tie.MeasureT-loop
-μ-loop owners numbers sizes tenant number i₀ i = 216 - i
+μ-loop owners numbers sizes tenant number i₀ i = rows - i
 
 pub order-row-spec : {M : Type 1} → statement M
 unfolding orderRow

@@ -15,7 +15,7 @@ abbrev Inv-loop : tie.InvT-loop
 Inv-loop owners sizes tenant count₀ i₀ count i = Passed rows (λ j. keep (restsFor tenant (at owners j) (at sizes j)) 1) i count × (count ≤ i)
 
 abbrev μ-loop : tie.MeasureT-loop
-μ-loop owners sizes tenant count₀ i₀ count i = 216 - i
+μ-loop owners sizes tenant count₀ i₀ count i = rows - i
 
 pub resting-rows-spec : {M : Type 1} → statement M
 unfolding restingRows

@@ -1,7 +1,7 @@
 -- `session::Session::new` meets its contract: a session started on no terms, and with no accepted settings it is sound
 -- beside anything.
-use borrow.Author.Needs.{needs}
-use Rattle.session.specs.SettingsSound.{new-kept}
+use Prim.{tt}
+use Rattle.session.specs.SettingsSoundLaws.{new-kept}
 use Rattle.session.proofs.Session.new.Statement.{statement}
 use Rattle.session.proofs.Session.new.Tie as tie
 
@@ -9,6 +9,6 @@ pub new-spec : {M : Type 1} → statement M
 new-spec =
     tie.close
     (tie.spec
-    (λ c κs. search needs)
-    (λ c κs. search needs)
+    (λ c κs. tt)
+    (λ c κs. tt)
     (λ c. new-kept _ _ (c .before .no-terms .ensures) (c .started .ensures)))

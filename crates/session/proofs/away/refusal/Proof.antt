@@ -1,5 +1,5 @@
 -- `session::away::refusal` meets its contract: the calls are the words of the rule.
-use borrow.Author.Needs.{needs}
+use Prim.{tt}
 use Rattle.session.specs.Settings.{awayRefusal}
 use Rattle.session.proofs.away.refusal.Statement.{statement}
 use Rattle.session.proofs.away.refusal.Tie as tie
@@ -9,8 +9,8 @@ unfolding awayRefusal
 refusal-spec =
     tie.close
     (tie.spec
-    (λ c κs. search needs)
-    (λ c κs. search needs)
-    (λ c κs. search needs)
-    (λ c κs. search needs)
+    (λ c κs. tt)
+    (λ c κs. tt)
+    (λ c κs. tt)
+    (λ c κs. tt)
     (λ c. rw (c .first2 .ensures, c .before .first .ensures, c .before .before .too-high .ensures, c .before .before .before .is-not .ensures)))

@@ -1,15 +1,15 @@
 -- `session::open::open_core` meets its contract, by which way the open goes; and what the definition makes of a sound
 -- market is sound.
+use Prim.{tt}
 use mathlib.Core.Path.{_≡_, sym, _∙_}
 use mathlib.Core.List.{List}
 use Prim.Native.Nat.{ℕ}
 use borrow.Author.Needs.{needs}
 use Rattle.book.specs.Book.{bookOf}
 use Rattle.session.specs.Market.{Market, marketOf}
-use Rattle.session.specs.Opening.{openOf}
-use Rattle.session.specs.OpenWay.{byWay}
-use Rattle.session.specs.OpenLaws.{priced-accepted, by-way, quiet-is}
-use Rattle.session.specs.OpenSound.{exact-sound}
+use Rattle.session.specs.Open.{openOf, byWay}
+use Rattle.session.specs.OpenLaws.{priced-accepted, by-way, can-open, quiet-is, matched-is}
+use Rattle.session.specs.OpenSoundLaws.{exact-sound}
 use Rattle.session.specs.declared.open.Way.{Way}
 use Rattle.session.proofs.open.open_core.Statement.{statement}
 use Rattle.session.proofs.open.open_core.Tie as tie
@@ -26,12 +26,14 @@ made c w is entries =
     let a = c .before .before .args in
     by-way (lent c entries) (a .lent) (a .records .now) w (sym is ∙ c .which-way .ensures (a .owners .now) (a .numbers .now) entries)
 
-match-at-requires : tie.Need-match-at-requires
-match-at-requires c κs =
-    let w = c .before .before .before .before .before in
+open-book-requires : tie.Need-open-book-requires
+open-book-requires c κs =
+    let w = c .before .before .before .before .before .before in
     let s = w .before .before in
     let a = s .args in
-    (s .pre .0 (priced-accepted (lent w (a .records .now)) (a .lent) _ (w .which-way .ensures (a .owners .now) (a .numbers .now) (a .records .now)) (c .before .before .before .way2 .given .1)), s .pre .1)
+    can-open (a .s) _ _
+    (s .pre .0 (priced-accepted (lent w (a .records .now)) (a .lent) _ (w .which-way .ensures (a .owners .now) (a .numbers .now) (a .records .now)) (c .before .before .before .before .way2 .given .1)))
+    (s .pre .1)
 
 returns : tie.Need-returns
 returns c = exact-sound _ _ _ _ _ _ _ (made (c .before .before .before) _ (c .before .way .given .1))
@@ -44,19 +46,24 @@ returns-2 c =
 
 returns-3 : tie.Need-returns-3
 returns-3 c =
-    let w = c .before .before .before .before .before .before in
-    exact-sound _ _ _ _ _ _ _ (λ entries. c .match-at .ensures entries ∙ made w _ (c .before .before .before .before .way2 .given .1) entries)
+    let done = c .before .before .before in
+    let w = done .before .before .before .before .before .before .before in
+    exact-sound _ _ _ _ _ _ _
+    (λ entries.
+    matched-is (lent w entries) _ _ _ _ _ _ (done .open-book .ensures .0) (done .open-book .ensures .1 .0) (done .open-book .ensures .1 .1) (c .open-on2 .ensures)
+    ∙ made w _ (done .before .before .before .before .before .way2 .given .1) entries)
 
 pub open-core-spec : {M : Type 1} → statement M
 open-core-spec =
     tie.close
     (tie.spec
-    (λ c κs. search needs)
+    (λ c κs. tt)
     (λ c. search needs)
     (λ c. search needs)
-    (λ c κs. search needs)
+    (λ c κs. tt)
     (λ c. search needs)
-    match-at-requires
+    open-book-requires
+    (λ c κs. tt)
     returns
     returns-2
     returns-3)

@@ -1,4 +1,5 @@
 -- `session::open::which_way` meets its contract, test by test.
+use Prim.{tt}
 use mathlib.Core.Path.{sym, _∙_}
 use mathlib.Core.List.{List}
 use Prim.Native.Nat.{ℕ}
@@ -51,8 +52,8 @@ which-way-spec =
     (λ c. λ owners numbers entries.
     way-6 (lent (c .before .before .before) owners numbers entries) (c .before .before .before .args .lent) (c .before .before .if1 .taken)
     (c .before .if2 .left) (c .if3 .taken))
-    (λ c κs. search needs)
-    (λ c κs. search needs)
+    (λ c κs. tt)
+    (λ c κs. tt)
     (λ c. search needs)
     (λ c. search needs)
     returns-3

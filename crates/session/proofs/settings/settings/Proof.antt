@@ -1,8 +1,9 @@
 -- `session::settings::settings` meets its contract, by whether the number is a grid's and the values are in range.
+use Prim.{tt}
 use mathlib.Core.Path.{refl, sym, _∙_}
 use borrow.Author.Needs.{needs}
 use Rattle.session.specs.SettingsLaws.{settings-no-grid, settings-outside, settings-accepted}
-use Rattle.session.specs.SettingsSound.{settings-kept}
+use Rattle.session.specs.SettingsSoundLaws.{settings-kept}
 use Rattle.session.proofs.settings.settings.Statement.{statement}
 use Rattle.session.proofs.settings.settings.Tie as tie
 
@@ -28,12 +29,12 @@ pub settings-spec : {M : Type 1} → statement M
 settings-spec =
     tie.close
     (tie.spec
-    (λ c κs. search needs)
+    (λ c κs. tt)
     (λ c. search needs)
     (λ c. search needs)
     returns
-    (λ c κs. search needs)
-    (λ c κs. search needs)
-    (λ c κs. search needs)
+    (λ c κs. tt)
+    (λ c κs. tt)
+    (λ c κs. tt)
     returns-2
     returns-3)

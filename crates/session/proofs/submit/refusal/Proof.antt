@@ -1,4 +1,5 @@
 -- `session::submit::refusal` meets its contract, test by test.
+use Prim.{tt}
 use mathlib.Core.Path.{sym, _∙_}
 use borrow.Author.Needs.{needs}
 use Rattle.session.specs.SubmitLaws.{refused-21, refused-1, refused-3, refused-2, refused-4, not-refused}
@@ -38,12 +39,12 @@ refusal-spec =
     tie.close
     (tie.spec
     (λ c. refused-1 _ _ _ _ (c .before .if1 .taken) (c .if2 .taken))
-    (λ c κs. search needs)
-    (λ c κs. search needs)
+    (λ c κs. tt)
+    (λ c κs. tt)
     returns-2
     (λ c. search needs)
     (λ c. search needs)
-    (λ c κs. search needs)
+    (λ c κs. tt)
     returns-3
     returns-4
     returns-5

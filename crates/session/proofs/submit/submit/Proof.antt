@@ -1,11 +1,11 @@
 -- `session::submit::submit` meets its contract, by whether it is refused; a bulk that is not finds the lane sound and
 -- has room in it.
+use Prim.{tt}
 use mathlib.Core.Path.{sym, _∙_}
 use native.Mathlib.Omega.{arith}
-use borrow.Author.Needs.{needs}
 use Rattle.session.specs.Market.{marketOf}
 use Rattle.session.specs.SubmitLaws.{joins, submit-refused, submit-accepted}
-use Rattle.session.specs.SubmitSound.{submit-kept}
+use Rattle.session.specs.SubmitSoundLaws.{submit-kept}
 use Rattle.session.proofs.submit.submit.Statement.{statement}
 use Rattle.session.proofs.submit.submit.Tie as tie
 
@@ -14,7 +14,7 @@ put-all-requires c κs =
     let start = c .before .before .before .before .before in
     let j = joins _ _ _ _ (sym (c .before .before .before .refusal .ensures) ∙ omega arith) in
     let sound = start .pre (j .set) in
-    record { lane = j .lane; len = sound .len _ (j .lane); long = sound .entries-long; given = j .given }
+    record { lane = j .lane; len = sound .marks .len _ (j .lane); long = sound .entries-long; given = j .given }
 
 joined-requires : tie.Need-joined-requires
 joined-requires c κs =
@@ -31,7 +31,7 @@ pub submit-spec : {M : Type 1} → statement M
 submit-spec =
     tie.close
     (tie.spec
-    (λ c κs. search needs)
+    (λ c κs. tt)
     (λ c. submit-kept _ _ _ _ _ _ _ (λ b. submit-refused (marketOf _ b _) _ _ _ _ (c .before .refusal .ensures) (c .if1 .taken)))
     put-all-requires
     joined-requires

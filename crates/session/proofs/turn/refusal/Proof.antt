@@ -1,4 +1,5 @@
 -- `session::turn::refusal` meets its contract, test by test.
+use Prim.{tt}
 use native.Mathlib.Omega.{arith}
 use borrow.Author.Needs.{needs}
 use Rattle.session.specs.TurnLaws.{refused-21, refused-5, refused-6, refused-35, not-refused}
@@ -9,7 +10,7 @@ pub refusal-spec : {M : Type 1} → statement M
 refusal-spec =
     tie.close
     (tie.spec
-    (λ c κs. search needs)
+    (λ c κs. tt)
     (λ c. search needs)
     (λ c. search needs)
     (λ c. refused-5 _ _ (c .before .before .before .before .if1 .taken) (c .before .before .served .ensures) (c .enum-told2 .given .1))

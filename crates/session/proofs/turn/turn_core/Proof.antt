@@ -1,10 +1,10 @@
 -- `session::turn::turn_core` meets its contract: refused, or the entry's turn of the lane served; a sound market has
 -- what each part rests on.
+use Prim.{tt}
 use borrow.Author.Needs.{needs}
-use Rattle.book.specs.Book.{bookOf}
-use Rattle.session.specs.Market.{Market, marketOf}
-use Rattle.session.specs.TakingSound.{turns-held}
-use Rattle.session.specs.WholeTurn.{turn-refused, turn-nobody, turn-taken, can-take, can-count, can-enter, sound-after}
+use Rattle.session.specs.Market.{Market, marketLent}
+use Rattle.session.specs.TakingLaws.{turns-held}
+use Rattle.session.specs.TurnLaws.{turn-refused, turn-nobody, turn-taken, can-take, can-count, can-number, can-deal, sound-after}
 use Rattle.session.proofs.turn.turn_core.Statement.{statement}
 use Rattle.session.proofs.turn.turn_core.Tie as tie
 
@@ -12,7 +12,7 @@ use Rattle.session.proofs.turn.turn_core.Tie as tie
 abbrev before : tie.Start → Market
 before c =
     let a = c .args in
-    marketOf (a .s) (bookOf (a .sides .now) (a .prices .now) (a .sizes .now) (a .owners .now) (a .numbers .now)) (a .entries .now)
+    marketLent (a .s) (a .sides) (a .prices) (a .sizes) (a .owners) (a .numbers) (a .entries)
 
 refusal-requires : tie.Need-refusal-requires
 refusal-requires c κs = turns-held (before c) (c .pre .0)
@@ -52,28 +52,39 @@ after-taking-requires c κs =
       can-count (before start) (a .lent) (a .records .now) _ (refused .refusal .ensures) none served _ (c .before .before .next .given .1) (start .pre .0),
     )
 
-entry-turn-requires : tie.Need-entry-turn-requires
-entry-turn-requires c κs =
-    let taken = c .before .before .before .before .before .before in
+deal-requires : tie.Need-deal-requires
+deal-requires c κs =
+    let taken = c .before .before .before .before .before .before .before .before in
     let told = taken .before .before in
     let refused = told .before .before .before .before .before .before in
     let start = refused .before in
     let a = start .args in
-    can-enter (before start) (a .lent) (a .records .now) _ (refused .refusal .ensures) (told .before .before .before .before .before .if1 .left)
-    (told .before .before .before .served .ensures) _ (told .before .next .given .1) (start .pre .0) _ _ (taken .before .head .ensures)
-    (taken .after-taking .ensures) (start .pre .1)
+    can-deal (before start) (a .lent) (a .records .now) _ (refused .refusal .ensures) (told .before .before .before .before .before .if1 .left)
+    (told .before .before .before .served .ensures) _ (told .before .next .given .1) (start .pre .0) _ _ _ (taken .before .head .ensures)
+    (taken .after-taking .ensures) (c .before .before .before .before .before .before .before .series-of .ensures) (start .pre .1)
+
+answered-requires : tie.Need-answered-requires
+answered-requires c κs =
+    let taken = c .before .before .before .before .before .before .before .before .before in
+    let told = taken .before .before in
+    let refused = told .before .before .before .before .before .before in
+    let start = refused .before in
+    let a = start .args in
+    can-number (before start) (a .lent) (a .records .now) _ (refused .refusal .ensures) (told .before .before .before .before .before .if1 .left)
+    (told .before .before .before .served .ensures) _ (told .before .next .given .1) (start .pre .0) _ (taken .after-taking .ensures)
 
 returns-3 : tie.Need-returns-3
 returns-3 c =
-    let taken = c .before .before .before .before .before .before .before in
+    let dealing = c .before in
+    let taken = dealing .before .before .before .before .before .before .before .before .before in
     let told = taken .before .before in
     let refused = told .before .before .before .before .before .before in
     let start = refused .before in
     let a = start .args in
     let done =
     turn-taken (before start) (a .lent) (a .records .now) _ (refused .refusal .ensures) (told .before .before .before .before .before .if1 .left)
-    (told .before .before .before .served .ensures) _ (told .before .next .given .1) _ _ _ (taken .before .head .ensures)
-    (taken .after-taking .ensures) (c .entry-turn .ensures (a .entries .now)) in
+    (told .before .before .before .served .ensures) _ (told .before .next .given .1) _ _ _ _ _ _ _ (taken .before .head .ensures)
+    (taken .after-taking .ensures) (dealing .before .before .before .before .before .before .before .before .series-of .ensures) (dealing .deal .ensures) (c .answered .ensures) in
     (done, sound-after (before start) (a .lent) (a .records .now) _ (start .pre .0) done)
 
 pub turn-core-spec : {M : Type 1} → statement M
@@ -82,11 +93,13 @@ turn-core-spec =
     (tie.spec
     refusal-requires
     returns
-    (λ c κs. search needs)
+    (λ c κs. tt)
     (λ c. search needs)
     (λ c. search needs)
     returns-2
     head-requires
     after-taking-requires
-    entry-turn-requires
+    (λ c κs. tt)
+    deal-requires
+    answered-requires
     returns-3)

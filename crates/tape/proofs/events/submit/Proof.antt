@@ -45,7 +45,7 @@ returns-3 c =
     let a = k .before .before .before .before .before .before .before .before .before .before .args in
     let e = submit-read (a .s .now) (a .at) (a .numbers .now) (tenant (k .before .before .before .before)) (count k)
     (sym (fits .before .both .ensures) ∙ fits .if1 .taken) in
-    (c .made .ensures ∙ rw (all .read-several .ensures .0) (e .0), all .read-several .ensures .1 ∙ e .1)
+    (λ last. c .made .ensures ∙ rw (all .read-several .ensures .0) (e .0 last), all .read-several .ensures .1 ∙ e .1)
 
 returns-4 : tie.Need-returns-4
 unfolding from1to

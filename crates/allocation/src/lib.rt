@@ -1,0 +1,4 @@
+// The edge of an order, where it runs out: how far it reaches by price and in line, and what each row trades, told by
+// that.
+pub mod reach;
+pub mod shares;

@@ -1,0 +1,41 @@
+-- `rows::passes::resting_within` meets its contract: the sum so far is that of the rows passed, and each of them adds
+-- at most what 32 bits hold.
+use mathlib.Core.Path.{_∙_}
+use Prim.Native.Nat.{_*_, _≤_, _-_}
+use native.Mathlib.Omega.{arith}
+use borrow.Author.Needs.{needs}
+use Rattle.rows.specs.Passes.{restingWithin}
+use Rattle.rows.specs.Rows.{rows, openSize}
+use Rattle.units.specs.Loops.{Passed, sum-starts, sum-goes-on, sum-ends}
+use Rattle.units.specs.Places.{at}
+use Rattle.units.specs.Units.{most32}
+use Rattle.rows.proofs.passes.resting_within.Statement.{statement}
+use Rattle.rows.proofs.passes.resting_within.Tie as tie
+
+abbrev Inv-loop : tie.InvT-loop
+Inv-loop side bound sides prices sizes sum₀ i₀ sum i = Passed rows (λ j. openSize side bound (at sides j) (at prices j) (at sizes j)) i sum × (sum ≤ i * most32)
+
+abbrev μ-loop : tie.MeasureT-loop
+μ-loop side bound sides prices sizes sum₀ i₀ sum i = rows - i
+
+pub resting-within-spec : {M : Type 1} → statement M
+unfolding restingWithin
+resting-within-spec =
+    tie.close
+    (tie.spec
+    Inv-loop
+    μ-loop
+    (λ c. (sum-starts _ _, omega arith))
+    (λ c. search needs)
+    (λ c. search needs)
+    (λ c. search needs)
+    (λ c. search needs)
+    (λ c. search needs)
+    (λ c. search needs)
+    (λ c κs. search needs)
+    (λ c κs. search needs)
+    (λ c. omega arith)
+    (λ c. search needs)
+    (λ c. search needs)
+    (λ c. (sum-goes-on _ _ _ _ _ (c .before .before .before .before .before .before .loop .inv .0) (c .before .before .before .before .before .loop-test .taken) (c .wide .ensures ∙ c .before .open-size .ensures), omega arith))
+    (λ c. sum-ends _ _ _ _ (c .before .loop .inv .0) (c .loop-test .left)))

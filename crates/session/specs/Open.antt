@@ -1,0 +1,113 @@
+-- The call open.
+use mathlib.Core.Bool.{true}
+use mathlib.Core.List.{List, [], _∷_}
+use Prim.Native.Nat.{ℕ}
+use lib.Dec.{ltb}
+use Rattle.units.specs.Units.{cents, contracts}
+use Rattle.units.specs.Tests.{_and_, pick}
+use Rattle.units.specs.Cases.{Case, _when_, firstOf}
+use Rattle.rows.specs.Rows.{rows}
+use Rattle.book.specs.Book.{Book, crosses}
+use Rattle.opening.specs.Opening.{volume, afterOpening, openingRecords, openingWritten}
+use Rattle.price.specs.declared.Sources.{Sources}
+use Rattle.price.specs.declared.Choice.{Choice}
+use Rattle.price.specs.Price.{priceOf, chosen, noneValid}
+use Rattle.tally.specs.declared.Tally.{Tally}
+use Rattle.dealing.specs.Open.{talliesOpened}
+use Rattle.session.specs.declared.OpenAnswer.{OpenAnswer}
+use Rattle.session.specs.declared.OpenAnswer.the-variants as answer
+use Rattle.session.specs.declared.Opened.{Opened}
+use Rattle.session.specs.declared.Session.{Session}
+use Rattle.session.specs.declared.open.Way.{Way}
+use Rattle.session.specs.declared.open.Way.the-variants.{Refused, Quiet, At}
+use Rattle.session.specs.Market.{Market, marketOf, withOpened, withTallies, unset}
+
+-- what an opening makes of a market and of the fill records lent to it, and what it answers
+pub record OpenDone : Type 0 where
+  pub market : Market
+  pub answer : OpenAnswer
+  pub records : List ℕ
+
+-- what an open answered, beside the book, the entries and the fill records that it left
+abbrev pub openDone : Opened → Book → List ℕ → List ℕ → OpenDone
+openDone r book entries records = record { market = marketOf (r .session) book entries; answer = r .answer; records = records }
+
+-- the paper's values: code, price, volume; a refused open has 0 for both
+pub record Line : Type 0 where
+  pub code : ℕ
+  pub price : ℕ
+  pub volume : ℕ
+
+abbrev pub printed : OpenAnswer → Line
+printed (answer.Refused code) = record { code = code; price = 0; volume = 0 }
+printed (answer.AtPrice price volume fills) = record { code = 0; price = price .0; volume = volume .0 }
+
+-- how many fill records an opening wrote
+abbrev pub fillsIn : OpenAnswer → ℕ
+fillsIn (answer.Refused code) = 0
+fillsIn (answer.AtPrice price volume fills) = fills
+
+-- NBB and NBO here are the away quote alone; the last print and the previous close are settings
+abbrev pub sourcesOf : Session → Sources
+sourcesOf s = record { bid = s .away .bid; offer = s .away .offer; print = s .terms .print; close = s .terms .close }
+
+unfoldable pub choiceOf : Session → Choice
+choiceOf s = priceOf (sourcesOf s)
+
+-- the numbers in the order of checking: 9 already open, 6 fewer than 216 fill records lent, 20 no valid opening price,
+-- given in no other case than that some resting buy is at or above a resting sell
+abbrev pub openCases : Market → ℕ → List Case
+openCases m lent =
+    unset (m .session)
+    ∷ (9 when m .session .opened)
+    ∷ (6 when ltb lent rows)
+    ∷ (20 when crosses (m .book) and noneValid (choiceOf (m .session)))
+    ∷ []
+
+unfoldable pub openRefusal : Market → ℕ → ℕ
+openRefusal m lent = firstOf 0 (openCases m lent)
+
+-- a session once open, with other tallies, and the market of it with another book
+abbrev pub openOn : Session → List Tally → Session
+openOn s tallies = withTallies (withOpened s true) tallies
+
+abbrev pub openedTo : Market → Book → List Tally → Market
+openedTo m book tallies = marketOf (openOn (m .session) tallies) book (m .entries)
+
+-- If no resting buy is at or above a resting sell, the series opens with price 0 and volume 0.
+unfoldable pub openQuiet : Market → List ℕ → OpenDone
+openQuiet m was = record {
+  market = openedTo m (m .book) (m .session .tallies);
+  answer = answer.AtPrice (cents 0) (contracts 0) 0;
+  records = was;
+}
+
+-- Otherwise it opens at the price chosen.
+unfoldable pub openAt : Market → List ℕ → ℕ → OpenDone
+openAt m was p = record {
+  market = openedTo m (afterOpening (m .book) p) (talliesOpened (m .book) p (m .session .tallies));
+  answer = answer.AtPrice (cents p) (contracts (volume (m .book) p)) (openingRecords (m .book) p);
+  records = openingWritten (m .book) p was;
+}
+
+-- a refused open returns the number alone and alters nothing
+unfoldable pub openOf : Market → ℕ → List ℕ → OpenDone
+openOf m lent was =
+    pick (ltb 0 (openRefusal m lent))
+    (record { market = m; answer = answer.Refused (openRefusal m lent); records = was })
+    (pick (crosses (m .book)) (openAt m was (chosen (choiceOf (m .session)))) (openQuiet m was))
+
+-- ---- which way an open goes, and what each way makes of a market
+
+-- refused by the first number that applies; else at the price chosen where some resting buy is at or above a resting
+-- sell, and else quiet
+unfoldable pub wayOf : Market → ℕ → Way
+wayOf m lent =
+    pick (ltb 0 (openRefusal m lent)) (Refused (openRefusal m lent))
+    (pick (crosses (m .book)) (At (cents (chosen (choiceOf (m .session))))) Quiet)
+
+-- what a market, and the fill records as lent, become
+abbrev pub byWay : Market → List ℕ → Way → OpenDone
+byWay m was (Refused code) = record { market = m; answer = answer.Refused code; records = was }
+byWay m was Quiet = openQuiet m was
+byWay m was (At price) = openAt m was (price .0)
