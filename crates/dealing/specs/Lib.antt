@@ -13,5 +13,6 @@ pub mod OrderLaws
 pub mod DealLaws
 pub mod Open
 pub mod OpenLaws
+pub mod WayLaws
 pub mod SumLaws
 pub mod SoundLaws

@@ -44,6 +44,7 @@ use Rattle.session.specs.declared.TurnAnswer.the-variants as turn-answer
 use Rattle.session.specs.Turn.{TurnDone, nobody, turnCases, turnRefusal, turnOf}
 use Rattle.session.specs.declared.OpenAnswer.{OpenAnswer}
 use Rattle.session.specs.declared.OpenAnswer.the-variants as open-answer
+use Rattle.dealing.specs.Open.{choiceIn, wayRefusal}
 use Rattle.session.specs.Open.{OpenDone, printed, sourcesOf, choiceOf, openCases, openRefusal, openQuiet, openAt, openOf}
 use Rattle.demands.specs.InOrder.{NoneOf, GivenInOrder}
 use Rattle.demands.specs.InOrderLaws.{Reads, none-ruled, number-in-order, Comes, by-none, by-number, comes-in-order}
@@ -199,7 +200,7 @@ module _ (m : Market) (lent : ℕ) (was : List ℕ) where
   open-comes (open-cases.opens p e c f) = by-none e (open-stands refl) (open-stands refl)
 
   no-price-says : (crosses (m .book) and noneValid (choiceOf (m .session)) ≡ true) ↔ ((crosses (m .book) ≡ true) × NoneUsable (sourcesOf (m .session)))
-  unfolding choiceOf
+  unfolding choiceIn
   no-price-says =
       let none = none-valid (sourcesOf (m .session)) in
       (λ h. (let p = and-true _ _ h in (p .0, none .0 (p .1))), λ p. and-holds _ _ (p .0) (none .1 (p .1)))
@@ -209,7 +210,7 @@ module _ (m : Market) (lent : ℕ) (was : List ℕ) where
 
   open-in-order : GivenInOrder (openRules m lent) (λ n. openOf m lent was .answer ≡ open-answer.Refused n)
       ((n : ℕ) → openOf m lent was .answer ≡ open-answer.Refused n → ⊥)
-  unfolding openRefusal
+  unfolding wayRefusal
   open-in-order = comes-in-order (openCases m lent) (openRules m lent) refl open-reads (open-comes (open-cases.outcome m lent was))
 
 -- ---- settings

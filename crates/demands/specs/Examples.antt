@@ -36,7 +36,8 @@ use Rattle.session.specs.declared.OpenAnswer.the-variants as open-answer
 use Rattle.session.specs.Market.{Market}
 use Rattle.dealing.specs.Deal.{quotesOn, filledOf, dispositionIn, bookAfter, trades, ordered, dealt}
 use Rattle.session.specs.Turn.{turnRefusal, afterTaking, turnOf}
-use Rattle.session.specs.Open.{choiceOf, openRefusal, openAt, openOf}
+use Rattle.dealing.specs.Open.{choiceIn, wayRefusal}
+use Rattle.session.specs.Open.{openAt, openOf}
 use Rattle.demands.specs.Markets.{terms, awayQuote, sessionOn}
 
 -- offers at one price, of the sizes given, numbered from 1
@@ -137,7 +138,7 @@ unfolding sumTo same lower precedes firstTo leastTo greatestTo table keyOf withi
     buyGoes sellGoes afterOpening openingRecords openingWritten lowerOffer quotesOf notYet offGrid atStrike noOffer unbid noBid converts
     asJudged tooWide farBuy farSell farPrice mightRest noRoom usedUp turnDown buyBound boundOf beyondDrill atAway dispositionOf verdict
     entryAt slot waitingAt distance servedBy served valid midpoint usable firstValid priceOf quotesOn turnRefusal afterTaking filledOf
-    dispositionIn bookAfter trades ordered dealt turnOf choiceOf openRefusal openAt openOf _and_ _or_ isNot pick lowerIf
+    dispositionIn bookAfter trades ordered dealt turnOf choiceIn wayRefusal openAt openOf _and_ _or_ isNot pick lowerIf
 examples = record {
   e1 = refl;
   e2 = refl;

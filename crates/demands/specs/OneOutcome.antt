@@ -132,6 +132,7 @@ use Rattle.price.proofs.choose.Reads as price-choose
 use Rattle.dealing.proofs.credit.credit.Reads as dealing-credit
 use Rattle.dealing.proofs.deal.deal.Reads as dealing-deal
 use Rattle.dealing.proofs.open.open_book.Reads as dealing-open-book
+use Rattle.dealing.proofs.open.which_way.Reads as dealing-which-way
 use Rattle.session.proofs.Session.new.Reads as session-new
 use Rattle.session.proofs.turn.turn_core.Reads as session-turn
 use Rattle.session.proofs.open.open_core.Reads as session-open
@@ -531,6 +532,9 @@ pub one-dealing-deal : OneOutcome dealing-deal.Post (λ e. columns (bookAt (e .1
 one-dealing-deal κs a z z′ e e′ p q =
     let one = same p q in
     (λ i. record { tallies = one i .tallies; came = one i .came }, ap (λ (d : Made). columns (d .book) (d .records ∷ [])) one)
+
+pub one-dealing-which-way : OneResult dealing-which-way.Post
+one-dealing-which-way κs a z z′ e e′ p q = same (p [] []) (q [] [])
 
 -- the sizes and the fill records
 pub one-dealing-open-book : OneOutcome dealing-open-book.Post (λ e. e .1 .1 .1 .1 .0 .now ∷ first (e .1 .1 .1 .1 .1 .1 .1))

@@ -15,12 +15,13 @@ use Rattle.price.specs.Price.{chosen, noneValid}
 use Rattle.price.specs.PriceLaws.{First, at-midpoint, at-print, at-close, nowhere, chosen-first}
 use Rattle.session.specs.declared.OpenAnswer.the-variants as answer
 use Rattle.session.specs.Market.{Market}
+use Rattle.dealing.specs.Open.{choiceIn, wayRefusal}
 use Rattle.session.specs.Open.{OpenDone, sourcesOf, choiceOf, openCases, openRefusal, openQuiet, openAt, openOf}
 use Rattle.demands.specs.InOrderLaws.{fails-at}
 
 -- an opening that is not refused has accepted settings
 pub open-set : (m : Market) (lent : ℕ) → openRefusal m lent ≡ 0 → m .session .accepted ≡ true
-unfolding openRefusal
+unfolding wayRefusal
 open-set m lent e = not-false (m .session .accepted) (fails-at 0 (openCases m lent) refl e 0)
 
 module _ (m : Market) (lent : ℕ) (was : List ℕ) where
@@ -37,7 +38,7 @@ module _ (m : Market) (lent : ℕ) (was : List ℕ) where
   by-price e c (nowhere u) n = absurd (holds-not-fails refl n)
 
   by-book : openRefusal m lent ≡ 0 → Outcome (pick (crosses (m .book)) (openAt m was (chosen (choiceOf (m .session)))) (openQuiet m was))
-  unfolding openRefusal choiceOf
+  unfolding wayRefusal choiceIn
   by-book e = picked Outcome (crosses (m .book)) _ _
       (λ c. by-price e c (chosen-first (sourcesOf (m .session))) (and-false _ _ (fails-at 0 (openCases m lent) refl e 3) c)) (quiet e)
 

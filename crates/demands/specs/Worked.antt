@@ -37,7 +37,8 @@ use Rattle.session.specs.Submit.{submitRefusal, submitOf}
 use Rattle.dealing.specs.Deal.{quotesOn, rests, filledOf, dispositionIn, bookAfter, trades, ordered, dealt}
 use Rattle.session.specs.Turn.{turnRefusal, afterTaking, turnOf}
 use Rattle.dealing.specs.Settle.{restingShare, talliesAfter}
-use Rattle.session.specs.Open.{choiceOf, openRefusal, openQuiet, openOf}
+use Rattle.dealing.specs.Open.{choiceIn, wayRefusal}
+use Rattle.session.specs.Open.{openQuiet, openOf}
 use Rattle.demands.specs.Markets.{worked}
 use Rattle.demands.specs.Runs.{Call, settings, submit, turn, opening, coded, turned, opened, answers, recordsLeft}
 
@@ -80,5 +81,5 @@ unfolding sumTo same lower precedes firstTo leastTo greatestTo table keyOf withi
     buyBound sellBound boundOf beyondDrill atAway dispositionOf verdict entryAt slot waitingAt put putAll joined taken distance servedBy served
     usable midpoint valid firstValid priceOf settingsOf wellCounted someMalformed submitRefusal submitOf addedFrom
     quotesOn turnRefusal afterTaking rests filledOf dispositionIn bookAfter restingShare talliesAfter trades ordered dealt turnOf
-    choiceOf openRefusal openQuiet openOf _and_ _or_ isNot pick lowerIf higherIf
+    choiceIn wayRefusal openQuiet openOf _and_ _or_ isNot pick lowerIf higherIf
 worked-example = (refl, refl)

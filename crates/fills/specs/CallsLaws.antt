@@ -30,6 +30,7 @@ use Rattle.session.specs.declared.OpenAnswer.the-variants as opened
 use Rattle.session.specs.TurnLaws.{refused-6}
 use Rattle.session.specs.Market.{Market, floorOn}
 use Rattle.session.specs.Turn.{TurnDone, turnDone, turnRefusal, turnOf, turnOfLane, turnCases, onceTaken, headEntry, answerOf, fillsIn}
+use Rattle.dealing.specs.Open.{wayRefusal}
 use Rattle.session.specs.Open.{OpenDone, openDone, choiceOf, openCases, openRefusal, openQuiet, openAt, openOf, fillsIn as fillsOpened}
 use Rattle.fills.specs.declared.Fill.{Fill}
 use Rattle.fills.specs.Fills.{stored, Fits}
@@ -83,7 +84,7 @@ abbrev FewOpened : ℕ → OpenDone → Type 0
 FewOpened n d = fillsOpened (d .answer) ≤ n
 
 open-lent : (m : Market) (lent : ℕ) → ltb 0 (openRefusal m lent) ≡ false → rows ≤ lent
-unfolding openRefusal
+unfolding wayRefusal
 open-lent m lent h =
     let none-holds = given-none 0 (openCases m lent) refl .0 (omega (arith, ltb-false 0 (openRefusal m lent) h)) in
     ltb-false lent rows (none-at (openCases m lent) 2 none-holds)
@@ -138,5 +139,5 @@ turn-few-lent m row t set busy few =
 -- and where the series is not open
 pub open-few-lent : (m : Market) (row : List Fill) → m .session .accepted ≡ true → m .session .opened ≡ false → length row < rows
     → openWith m row .answer ≡ opened.Refused 6
-unfolding openOf openRefusal pick isNot
+unfolding openOf wayRefusal pick isNot
 open-few-lent m row set shut few = rw (set, shut, lt-ltb (length row) rows few)

@@ -28,6 +28,12 @@ pub record Called : Type 0 where
   pub market : Market
   pub code : ℕ
 
+-- what a turn or an open makes of a market and of the fill records lent to it, and what it answers
+pub record Done (A : Type 0) : Type 0 where
+  pub market : Market
+  pub answer : A
+  pub records : List ℕ
+
 -- the market of a session, a book and the lanes' entries
 abbrev pub marketOf : Session → Book → List ℕ → Market
 marketOf s book entries = record { session = s; book = book; entries = entries }

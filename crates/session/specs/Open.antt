@@ -1,32 +1,28 @@
 -- The call open.
 use mathlib.Core.Bool.{true}
-use mathlib.Core.List.{List, [], _∷_}
+use mathlib.Core.List.{List}
 use Prim.Native.Nat.{ℕ}
 use lib.Dec.{ltb}
 use Rattle.units.specs.Units.{cents, contracts}
-use Rattle.units.specs.Tests.{_and_, pick}
-use Rattle.units.specs.Cases.{Case, _when_, firstOf}
-use Rattle.rows.specs.Rows.{rows}
+use Rattle.units.specs.Tests.{pick}
+use Rattle.units.specs.Cases.{Case}
 use Rattle.book.specs.Book.{Book, crosses}
 use Rattle.opening.specs.Opening.{volume, afterOpening, openingRecords, openingWritten}
 use Rattle.price.specs.declared.Sources.{Sources}
 use Rattle.price.specs.declared.Choice.{Choice}
-use Rattle.price.specs.Price.{priceOf, chosen, noneValid}
+use Rattle.price.specs.Price.{chosen}
 use Rattle.tally.specs.declared.Tally.{Tally}
-use Rattle.dealing.specs.Open.{talliesOpened}
+use Rattle.dealing.specs.Open.{talliesOpened, sourcesIn, choiceIn, wayCases, wayRefusal}
 use Rattle.session.specs.declared.OpenAnswer.{OpenAnswer}
 use Rattle.session.specs.declared.OpenAnswer.the-variants as answer
 use Rattle.session.specs.declared.Opened.{Opened}
 use Rattle.session.specs.declared.Session.{Session}
-use Rattle.session.specs.declared.open.Way.{Way}
-use Rattle.session.specs.declared.open.Way.the-variants.{Refused, Quiet, At}
-use Rattle.session.specs.Market.{Market, marketOf, withOpened, withTallies, unset}
+use Rattle.dealing.specs.declared.open.Way.{Way}
+use Rattle.dealing.specs.declared.open.Way.the-variants.{Refused, Quiet, At}
+use Rattle.session.specs.Market.{Market, Done, marketOf, withOpened, withTallies, seriesOf}
 
--- what an opening makes of a market and of the fill records lent to it, and what it answers
-pub record OpenDone : Type 0 where
-  pub market : Market
-  pub answer : OpenAnswer
-  pub records : List ℕ
+abbrev pub OpenDone : Type 0
+OpenDone = Done OpenAnswer
 
 -- what an open answered, beside the book, the entries and the fill records that it left
 abbrev pub openDone : Opened → Book → List ℕ → List ℕ → OpenDone
@@ -47,25 +43,19 @@ abbrev pub fillsIn : OpenAnswer → ℕ
 fillsIn (answer.Refused code) = 0
 fillsIn (answer.AtPrice price volume fills) = fills
 
--- NBB and NBO here are the away quote alone; the last print and the previous close are settings
+-- what the opening price is chosen by, and the choice
 abbrev pub sourcesOf : Session → Sources
-sourcesOf s = record { bid = s .away .bid; offer = s .away .offer; print = s .terms .print; close = s .terms .close }
+sourcesOf s = sourcesIn (seriesOf s)
 
-unfoldable pub choiceOf : Session → Choice
-choiceOf s = priceOf (sourcesOf s)
+abbrev pub choiceOf : Session → Choice
+choiceOf s = choiceIn (seriesOf s)
 
--- the numbers in the order of checking: 9 already open, 6 fewer than 216 fill records lent, 20 no valid opening price,
--- given in no other case than that some resting buy is at or above a resting sell
+-- the numbers in the order of checking
 abbrev pub openCases : Market → ℕ → List Case
-openCases m lent =
-    unset (m .session)
-    ∷ (9 when m .session .opened)
-    ∷ (6 when ltb lent rows)
-    ∷ (20 when crosses (m .book) and noneValid (choiceOf (m .session)))
-    ∷ []
+openCases m lent = wayCases (m .session .accepted) (seriesOf (m .session)) (m .book) lent
 
-unfoldable pub openRefusal : Market → ℕ → ℕ
-openRefusal m lent = firstOf 0 (openCases m lent)
+abbrev pub openRefusal : Market → ℕ → ℕ
+openRefusal m lent = wayRefusal (m .session .accepted) (seriesOf (m .session)) (m .book) lent
 
 -- a session once open, with other tallies, and the market of it with another book
 abbrev pub openOn : Session → List Tally → Session
@@ -97,16 +87,7 @@ openOf m lent was =
     (record { market = m; answer = answer.Refused (openRefusal m lent); records = was })
     (pick (crosses (m .book)) (openAt m was (chosen (choiceOf (m .session)))) (openQuiet m was))
 
--- ---- which way an open goes, and what each way makes of a market
-
--- refused by the first number that applies; else at the price chosen where some resting buy is at or above a resting
--- sell, and else quiet
-unfoldable pub wayOf : Market → ℕ → Way
-wayOf m lent =
-    pick (ltb 0 (openRefusal m lent)) (Refused (openRefusal m lent))
-    (pick (crosses (m .book)) (At (cents (chosen (choiceOf (m .session))))) Quiet)
-
--- what a market, and the fill records as lent, become
+-- what a market, and the fill records as lent, become by the way that an open goes
 abbrev pub byWay : Market → List ℕ → Way → OpenDone
 byWay m was (Refused code) = record { market = m; answer = answer.Refused code; records = was }
 byWay m was Quiet = openQuiet m was

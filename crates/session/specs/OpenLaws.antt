@@ -1,72 +1,32 @@
 -- The cases of an open, as the code meets them.
-use mathlib.Core.Path.{_≡_, refl, sym, ap, _∙_}
-use mathlib.Core.Bool.{Bool, true, false, true≢false}
+use mathlib.Core.Path.{_≡_, refl, ap, _∙_}
+use mathlib.Core.Bool.{Bool, true, false}
 use mathlib.Core.List.{List}
-use Prim.Native.Nat.{ℕ, _*_, _≤_, _<_}
+use Prim.Native.Nat.{ℕ, _*_}
 use lib.Dec.{ltb}
 use lib.ListN.{length}
-use borrow.Author.Tests.{lt-ltb, le-ltb}
 use Rattle.units.specs.declared.Cents.{Cents}
 use Rattle.book.specs.Records.{fields}
 use Rattle.units.specs.Units.{cents, contracts}
-use Rattle.units.specs.Tests.{_and_, isNot, pick, fails, not-holds, not-false}
+use Rattle.units.specs.Tests.{pick}
 use Rattle.rows.specs.Rows.{rows}
 use Rattle.book.specs.Book.{Book, crosses}
 use Rattle.opening.specs.Opening.{afterOpening, openingWritten}
 use Rattle.dealing.specs.declared.open.Counted.{Counted}
-use Rattle.dealing.specs.Open.{countedOf, CanOpen}
+use Rattle.dealing.specs.Open.{countedOf, CanOpen, wayOf}
 use Rattle.dealing.specs.Sound.{Ready}
-use Rattle.price.specs.declared.Choice.{Choice}
 use Rattle.price.specs.declared.Choice.the-variants as choice
 use Rattle.price.specs.Price.{chosen}
 use Rattle.session.specs.declared.OpenAnswer.the-variants as answer
 use Rattle.session.specs.declared.Session.{Session}
-use Rattle.session.specs.declared.open.Way.{Way}
-use Rattle.session.specs.declared.open.Way.the-variants.{Refused, Quiet, At}
-use Rattle.session.specs.Market.{Market, marketOf, floorOn}
-use Rattle.session.specs.Open.{openRefusal, choiceOf, openOn, openQuiet, openAt, openOf, wayOf, byWay}
+use Rattle.dealing.specs.declared.open.Way.{Way}
+use Rattle.dealing.specs.declared.open.Way.the-variants.{Refused, Quiet, At}
+use Rattle.session.specs.Market.{Market, marketOf, seriesOf, floorOn}
+use Rattle.session.specs.Open.{openRefusal, choiceOf, openOn, openQuiet, openAt, openOf, byWay}
 
--- which way it goes, by what each test says
 module _ (m : Market) (lent : ℕ) where
-  pub way-21 : m .session .accepted ≡ false → Refused 21 ≡ wayOf m lent
-  unfolding wayOf openRefusal pick isNot
-  way-21 h = rw h
-
-  module _ (set : m .session .accepted ≡ true) where
-    pub way-9 : m .session .opened ≡ true → Refused 9 ≡ wayOf m lent
-    unfolding wayOf openRefusal pick isNot
-    way-9 h = rw (set, h)
-
-    module _ (unopened : m .session .opened ≡ false) where
-      pub way-6 : lent < rows → Refused 6 ≡ wayOf m lent
-      unfolding wayOf openRefusal pick isNot
-      way-6 h = rw (set, unopened, lt-ltb lent rows h)
-
-      module _ (room : rows ≤ lent) where
-        pub way-quiet : crosses (m .book) ≡ false → Quiet ≡ wayOf m lent
-        unfolding wayOf openRefusal pick isNot _and_
-        way-quiet h = rw (set, unopened, le-ltb lent rows room, h)
-
-        module _ (crossed : crosses (m .book) ≡ true) {c : Choice} (is : c ≡ choiceOf (m .session)) where
-          pub way-20 : c ≡ choice.NoneValid → Refused 20 ≡ wayOf m lent
-          unfolding wayOf openRefusal pick isNot _and_ choiceOf
-          way-20 h = rw (set, unopened, le-ltb lent rows room, crossed, sym is ∙ h)
-
-          pub way-at : (price : Cents) → c ≡ choice.At price → At price ≡ wayOf m lent
-          unfolding wayOf openRefusal pick isNot _and_ choiceOf
-          way-at price h = rw (set, unopened, le-ltb lent rows room, crossed, sym is ∙ h)
-
-  -- only a session with accepted settings is given a price
-  pub priced-accepted : {w : Way} (price : Cents) → w ≡ wayOf m lent → w ≡ At price → m .session .accepted ≡ true
-  priced-accepted price is at = not-false (m .session .accepted) (fails _ (λ h. true≢false (ap refuses (way-21 (not-holds _ h) ∙ (sym is ∙ at)))))
-    where
-      refuses : Way → Bool
-      refuses (Refused code) = true
-      refuses Quiet = false
-      refuses (At p) = false
-
   -- and what an open makes of a market is what its way makes of it
-  pub by-way : (was : List ℕ) (w : Way) → w ≡ wayOf m lent → byWay m was w ≡ openOf m lent was
+  pub by-way : (was : List ℕ) (w : Way) → w ≡ wayOf (m .session .accepted) (seriesOf (m .session)) (m .book) lent → byWay m was w ≡ openOf m lent was
   unfolding wayOf openOf pick
   by-way was w is = ap (byWay m was) is ∙ go (ltb 0 (openRefusal m lent)) (crosses (m .book))
     where

@@ -27,13 +27,10 @@ use Rattle.session.specs.declared.Session.{Session}
 use Rattle.session.specs.declared.Turned.{Turned}
 use Rattle.session.specs.declared.TurnAnswer.{TurnAnswer}
 use Rattle.session.specs.declared.TurnAnswer.the-variants as answer
-use Rattle.session.specs.Market.{Market, marketOf, withLanes, withNext, withTallies, floorOn, unset}
+use Rattle.session.specs.Market.{Market, Done, marketOf, withLanes, withNext, withTallies, floorOn, unset}
 
--- what a turn makes of a market and of the fill records lent to it, and what it answers
-pub record TurnDone : Type 0 where
-  pub market : Market
-  pub answer : TurnAnswer
-  pub records : List ℕ
+abbrev pub TurnDone : Type 0
+TurnDone = Done TurnAnswer
 
 -- what a turn answered, beside the book, the entries and the fill records that it left
 abbrev pub turnDone : Turned → Book → List ℕ → List ℕ → TurnDone

@@ -6,6 +6,7 @@ pub mod submit;
 pub mod turn;
 
 use crate::settings::started;
+use dealing::Series;
 use entry::Away;
 use entry::Terms;
 use lanes::Lanes;
@@ -17,7 +18,7 @@ ghost use mathlib.Core.Path.{_≡_};
 ghost use mathlib.Core.List.{List};
 ghost use Prim.Native.Nat.{ℕ};
 ghost use Rattle.book.specs.Book.{Book};
-ghost use Rattle.session.specs.Market.{marketOf};
+ghost use Rattle.session.specs.Market.{marketOf, seriesOf};
 ghost use Rattle.session.specs.Settings.{noTerms, newSession};
 ghost use Rattle.session.specs.Sound.{Sound};
 
@@ -53,6 +54,19 @@ fn no_terms() -> Terms
         greatest: Cents(0),
         print: Cents(0),
         close: Cents(0),
+    }
+}
+
+// The parts of the series.
+fn series_of(s: Session) -> Series
+    ensures { λ r. ⌜ r ≡ seriesOf s ⌝ }
+{
+    let terms = s.terms;
+    let away = s.away;
+    Series {
+        terms: terms,
+        away: away,
+        opened: s.opened,
     }
 }
 

@@ -2,14 +2,12 @@
 use crate::OpenAnswer;
 use crate::Opened;
 use crate::Session;
+use crate::series_of;
 use book::Records;
-use book::quotes::crosses;
+use dealing::open::Way;
 use dealing::open::open_book;
-use price::Choice;
-use price::Sources;
-use price::choose;
+use dealing::open::which_way;
 use rows::Column;
-use rows::ROWS;
 use tally::Tallies;
 use units::Cents;
 use units::Contracts;
@@ -19,61 +17,10 @@ ghost use Prim.Native.Nat.{ℕ, _*_};
 ghost use lib.ListN.{length};
 ghost use Rattle.rows.specs.Rows.{rows};
 ghost use Rattle.book.specs.Records.{fields};
-ghost use Rattle.book.specs.Lent.{given, before, after, quoting};
+ghost use Rattle.book.specs.Lent.{given, before, after};
 ghost use Rattle.session.specs.Market.{marketOf};
 ghost use Rattle.session.specs.Sound.{BookSound, Sound};
-ghost use Rattle.session.specs.Open.{openDone, choiceOf, openOn, openOf, wayOf};
-
-// Which way an open goes: refused by a number; quiet, where no resting buy is at or above a resting sell; or at the
-// price chosen.
-enum Way {
-    Refused(u32),
-    Quiet,
-    At(Cents),
-}
-
-// The first valid opening price by the away quote, the last print and the previous close.
-fn choice(s: Session) -> Choice
-    ensures { λ r. ⌜ r ≡ choiceOf s ⌝ }
-{
-    let bid = s.away.bid;
-    let offer = s.away.offer;
-    let print = s.terms.print;
-    let close = s.terms.close;
-    choose(Sources {
-        bid: bid,
-        offer: offer,
-        print: print,
-        close: close,
-    })
-}
-
-// The refusals in the order of checking; a price is asked for only where the book crosses.
-fn which_way(s: Session, sides: &Column, prices: &Column, sizes: &Column, lent: usize) -> Way
-    ensures { λ r. ⌜ quoting sides prices sizes (λ b. (entries : List ℕ) → r ≡ wayOf (marketOf s b entries) lent) ⌝ }
-{
-    let accepted = s.accepted;
-    if accepted {
-        let opened = s.opened;
-        if opened {
-            return Way::Refused(9);
-        }
-        if lent < ROWS {
-            return Way::Refused(6);
-        }
-        if crosses(sides, prices, sizes) {
-            let first = choice(s);
-            match first {
-                Choice::At(price) => Way::At(price),
-                Choice::NoneValid => Way::Refused(20),
-            }
-        } else {
-            Way::Quiet
-        }
-    } else {
-        Way::Refused(21)
-    }
-}
+ghost use Rattle.session.specs.Open.{openDone, openOn, openOf};
 
 // The session once open.
 fn open_on(s: Session, tallies: Tallies) -> Session
@@ -103,7 +50,9 @@ pub fn open_core(
     ensures sound { λ r. ⌜ ((entries : List ℕ) → Sound (marketOf s (before sides prices sizes owners numbers) entries)
         → Sound (marketOf (r .session) (after sides prices sizes owners numbers) entries)) ⌝ }
 {
-    let way = which_way(s, sides, prices, sizes, lent);
+    let accepted = s.accepted;
+    let series = series_of(s);
+    let way = which_way(accepted, series, lent, sides, prices, sizes);
     match way {
         Way::Refused(code) => Opened {
             session: s,

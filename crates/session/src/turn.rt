@@ -2,10 +2,10 @@
 use crate::Session;
 use crate::TurnAnswer;
 use crate::Turned;
+use crate::series_of;
 use book::Records;
 use dealing::Came;
 use dealing::Dealt;
-use dealing::Series;
 use dealing::deal::deal;
 use lanes::Entries;
 use lanes::Served;
@@ -24,7 +24,7 @@ ghost use Rattle.rows.specs.Rows.{rows, noNumber};
 ghost use Rattle.lanes.specs.Asked.{CanTake};
 ghost use Rattle.tally.specs.Tallies.{Countable};
 ghost use Rattle.dealing.specs.Floor.{nextAfter};
-ghost use Rattle.session.specs.Market.{marketLent, marketFound, marketLeft, seriesOf};
+ghost use Rattle.session.specs.Market.{marketLent, marketFound, marketLeft};
 ghost use Rattle.session.specs.Sound.{TurnsHeld, Sound};
 ghost use Rattle.session.specs.Turn.{turnRefusal, afterTaking, answerOf, turnedBy, turnLeft, turnOf};
 
@@ -111,19 +111,6 @@ fn answered(s: Session, t: usize, done: Dealt) -> Turned
     Turned {
         session: after,
         answer: answer_of(t, came),
-    }
-}
-
-// The parts of the series that an entry is dealt with by.
-fn series_of(s: Session) -> Series
-    ensures { λ r. ⌜ r ≡ seriesOf s ⌝ }
-{
-    let terms = s.terms;
-    let away = s.away;
-    Series {
-        terms: terms,
-        away: away,
-        opened: s.opened,
     }
 }
 
