@@ -1,5 +1,6 @@
 -- The table of events: what holds of every row holds of the form behind any event number.
 use mathlib.Core.Path.{_≡_, refl}
+use mathlib.Core.Logic.{_⊎_, inl, inr, ⊎-elim}
 use mathlib.Core.List.{List, [], _∷_}
 use Prim.Native.Nat.{ℕ}
 use native.Mathlib.Decide.{ℕ-discrete}
@@ -33,3 +34,22 @@ form-33 [] n other = (refl, other)
 form-33 (k ∷ ks) n other =
     let rest = form-33 ks n other in
     (rw (ne-eqb n (k .number) (rest .1 .1)) (rest .0), rest .1 .0)
+
+-- a number that no kind of the table has
+abbrev pub NoneHas : List Kind → ℕ → Type 0
+NoneHas [] n = Unit {0}
+NoneHas (k ∷ ks) n = (n ≡ k .number → ⊥) × NoneHas ks n
+
+pub none-has : (ks : List Kind) (n : ℕ) → NoneHas ks n → formIn ks n ≡ bad 33
+unfolding formIn
+none-has [] n none = refl
+none-has (k ∷ ks) n (d, none) = rw (ne-eqb n (k .number) d) (none-has ks n none)
+
+-- what holds of each kind holds of the form behind a number, or no kind has the number
+pub each-or-none : (P : ℕ → Form → Type 0) (ks : List Kind) (n : ℕ) → Each P ks → P n (formIn ks n) ⊎ NoneHas ks n
+unfolding formIn
+each-or-none P [] n all = inr tt
+each-or-none P (k ∷ ks) n (row also rows) = elim (ℕ-discrete n (k .number)) [
+  | yes e ↦ inl (rw (eq-eqb n (k .number) e, e) row)
+  | no d ↦ ⊎-elim (λ p. inl (rw (ne-eqb n (k .number) d) p)) (λ none. inr (d, none)) (each-or-none P ks n rows)
+]

@@ -8,4 +8,5 @@ pub mod Depth
 pub mod TapeLaws
 pub mod Leads
 pub mod Spelling
+pub mod Refusals
 pub mod Examples

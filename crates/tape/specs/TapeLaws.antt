@@ -27,11 +27,14 @@ refused-read code place e end q = let z : _≡_ {A = ℕ} 0 1 = cc in omega arit
 pub end-read : (e : Event) (end : ℕ) → End ≡ Read e end → ⊥
 end-read e end q = let z : _≡_ {A = ℕ} 0 1 = cc in omega arith
 
-on-tape : (s : List ℕ) (at : ℕ) → at < length s → eventAt s at ≡ reading event s at at
+pub end-refused : (code place : ℕ) → End ≡ Refused code place → ⊥
+end-refused code place q = let z : _≡_ {A = ℕ} 0 1 = cc in omega arith
+
+pub on-tape : (s : List ℕ) (at : ℕ) → at < length s → eventAt s at ≡ reading event s at at
 unfolding eventAt
 on-tape s at h = rw (lt-ltb at (length s) h)
 
-past-tape : (s : List ℕ) (at : ℕ) → length s ≤ at → eventAt s at ≡ End
+pub past-tape : (s : List ℕ) (at : ℕ) → length s ≤ at → eventAt s at ≡ End
 unfolding eventAt
 past-tape s at h = rw (le-ltb at (length s) h)
 
@@ -238,6 +241,3 @@ refused-place s at code p q =
   where
     by-place : p ≤ length s → (p ≡ length s → code ≡ 30) → (p < length s) ⊎ ((p ≡ length s) × (code ≡ 30))
     by-place h f = ⊎-elim inl (λ l. let e : p ≡ length s = omega arith in inr (e, f e)) (below p (length s))
-
-    end-refused : (code p : ℕ) → End ≡ Refused code p → ⊥
-    end-refused code p e = let z : _≡_ {A = ℕ} 0 1 = cc in omega arith
