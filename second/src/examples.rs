@@ -23,8 +23,9 @@ fn settings_words(numbers: [u32; 11]) -> String {
 }
 
 fn printed(words: &str) -> String {
+    let tape = make(words).expect("words");
     let mut out = Vec::new();
-    tape::run(&make(words).expect("words"), &mut out).expect("memory");
+    tape::run(&mut Session::default(), &tape, &mut out).expect("memory");
     String::from_utf8(out).expect("lines")
 }
 
@@ -213,6 +214,17 @@ fn turns_are_refused_by_35_when_used_up() {
     assert_eq!(session.turn(RECORDS - 1), Err(Refusal::FewRecords));
     assert_eq!(session.turn(RECORDS), Err(Refusal::TurnsUsedUp));
     assert_eq!(session, before);
+}
+
+#[test]
+fn the_most_turns_are_printed_whole() {
+    let mut session = accepted();
+    session
+        .series_mut()
+        .set_turns(8, u64::try_from(MOST_TURNS).unwrap());
+    let mut out = Vec::new();
+    tape::print_tallies(&session, &mut out).expect("memory");
+    assert!(out.ends_with(b"tally 7 0 0 0\ntally 8 1000000000000000000 0 0\n"));
 }
 
 #[test]

@@ -80,6 +80,13 @@ impl Session {
         self.series.as_ref()
     }
 
+    /// The tallies of the present series by tenant; zeros where there is none.
+    pub fn tallies(&self) -> [Tally; TENANTS] {
+        self.series
+            .as_ref()
+            .map_or_else(Default::default, |series| series.tallies)
+    }
+
     /// Accepts settings and starts the series anew.
     pub fn settings(&mut self, numbers: &[u32; SETTINGS_NUMBERS]) -> Result<(), Refusal> {
         let settings = Settings::from_numbers(numbers)?;

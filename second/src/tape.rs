@@ -244,13 +244,22 @@ fn print_fills(fills: &[Fill], out: &mut impl Write) -> io::Result<()> {
     })
 }
 
-/// Runs a whole tape and prints its lines; tells whether it came to its end.
-pub fn run(tape: &[u8], out: &mut impl Write) -> io::Result<bool> {
-    let mut session = Session::default();
+/// Prints a line for each tenant: turns taken, contracts bought and sold.
+pub fn print_tallies(session: &Session, out: &mut impl Write) -> io::Result<()> {
+    let tallies = session.tallies();
+    tallies.iter().enumerate().try_for_each(|(tenant, tally)| {
+        let (turns, bought, sold) = (tally.turns, tally.bought, tally.sold);
+        writeln!(out, "tally {tenant} {turns} {bought} {sold}")
+    })
+}
+
+/// Runs a whole tape on a session and prints its lines; tells whether it came
+/// to its end.
+pub fn run(session: &mut Session, tape: &[u8], out: &mut impl Write) -> io::Result<bool> {
     let mut reader = Reader::new(tape);
     loop {
         match reader.event() {
-            Ok(Some(event)) => print(&call(&mut session, &event), out)?,
+            Ok(Some(event)) => print(&call(session, &event), out)?,
             Ok(None) => {
                 writeln!(out, "end")?;
                 return Ok(true);
@@ -359,7 +368,7 @@ mod tests {
                 })
                 .collect();
             let mut out = Vec::new();
-            assert!(run(&tape, &mut out).is_ok());
+            assert!(run(&mut Session::default(), &tape, &mut out).is_ok());
             assert!(out.ends_with(b"\n"));
         }
     }

@@ -1,5 +1,6 @@
 //! The programs as they are started: input, output and exit status.
 
+use std::fs;
 use std::io::{pipe, PipeWriter, Read, Write};
 use std::process::{Command, Output, Stdio};
 
@@ -65,6 +66,113 @@ fn two_files_are_too_many() {
     assert_eq!(output.status.code(), Some(2));
 }
 
+/// The tallies of a tape without turns.
+const ZEROS: &str = "\
+tally 0 0 0 0
+tally 1 0 0 0
+tally 2 0 0 0
+tally 3 0 0 0
+tally 4 0 0 0
+tally 5 0 0 0
+tally 6 0 0 0
+tally 7 0 0 0
+tally 8 0 0 0
+";
+
+#[test]
+fn tallies_of_the_worked_example_follow_its_end() {
+    let file = format!("{STORED}/worked-example.tape");
+    let tape = fs::read(&file).expect("a stored tape");
+    let whole = "\
+set 0
+open 0 0 0
+submit 0
+submit 0
+turn 2 0 1 0 1
+turn 7 0 2 3 0
+fill 1 2 3 100
+refused 5
+end
+tally 0 0 0 0
+tally 1 0 0 0
+tally 2 1 3 0
+tally 3 0 0 0
+tally 4 0 0 0
+tally 5 0 0 0
+tally 6 0 0 0
+tally 7 1 0 3
+tally 8 0 0 0
+";
+    for (arguments, input) in [
+        (&["--tallies", &file][..], &[][..]),
+        (&["--tallies"], &tape),
+    ] {
+        let output = start(SECOND, arguments, input);
+        assert_eq!(String::from_utf8_lossy(&output.stdout), whole);
+        assert_eq!(String::from_utf8_lossy(&output.stderr), "");
+        assert_eq!(output.status.code(), Some(0));
+    }
+}
+
+#[test]
+fn tallies_without_settings_are_zeros() {
+    for (tape, lines) in [
+        (&[][..], "end\n"),
+        (&[4, 5], "refused 21\nopen 21 0 0\nend\n"),
+    ] {
+        let output = start(SECOND, &["--tallies"], tape);
+        let whole = format!("{lines}{ZEROS}");
+        assert_eq!(String::from_utf8_lossy(&output.stdout), whole);
+        assert_eq!(output.status.code(), Some(0));
+    }
+}
+
+#[test]
+fn tallies_follow_a_refused_tape_too() {
+    let output = start(SECOND, &["--tallies"], &[4, 2, 0x80, 0x00]);
+    let whole = format!("refused 21\ntape 31 2\n{ZEROS}");
+    assert_eq!(String::from_utf8_lossy(&output.stdout), whole);
+    assert_eq!(output.status.code(), Some(1));
+}
+
+#[test]
+fn tallies_change_neither_the_lines_before_nor_the_status() {
+    for file in fs::read_dir(STORED).expect("a folder of stored tapes") {
+        let file = file.expect("a file of the folder").path();
+        if file.extension().is_none_or(|kind| kind != "tape") {
+            continue;
+        }
+        let lines = fs::read_to_string(file.with_extension("out")).expect("its lines");
+        let name = file.to_str().expect("a plain name");
+        let plain = start(SECOND, &[name], &[]);
+        assert_eq!(String::from_utf8_lossy(&plain.stdout), lines, "{name}");
+        let output = start(SECOND, &["--tallies", name], &[]);
+        let printed = String::from_utf8_lossy(&output.stdout);
+        let tallies = printed.strip_prefix(&lines).expect("the same lines first");
+        assert_eq!(tallies.lines().count(), 9, "{name}");
+        for (tenant, line) in tallies.lines().enumerate() {
+            assert!(line.starts_with(&format!("tally {tenant} ")), "{name}");
+        }
+        assert_eq!(output.status.code(), plain.status.code(), "{name}");
+    }
+}
+
+#[test]
+fn tallies_are_asked_for_before_one_tape() {
+    let file = format!("{STORED}/worked-example.tape");
+    for arguments in [
+        &[&file, "--tallies"][..],
+        &["--tallies", &file, &file],
+        &["--tallies", "there-is-no-such.tape"],
+    ] {
+        let output = start(SECOND, arguments, &[]);
+        assert!(output.stdout.is_empty(), "{arguments:?}");
+        assert_eq!(output.status.code(), Some(2), "{arguments:?}");
+        let told = String::from_utf8_lossy(&output.stderr);
+        assert_eq!(told.lines().count(), 1, "{arguments:?}");
+    }
+}
+
 /// A tape and its words with places, as `tapes` shows them.
 const SHOWN: (&[u8], &str) = (
     &[2, 100, 0, 4, 0, 4],
@@ -118,9 +226,11 @@ fn start_into_closed_pipe(program: &str, arguments: &[&str]) -> Output {
 #[test]
 fn a_pipe_closed_early_is_no_complaint_in_any_mode() {
     let words = format!("{STORED}/worked-example.words");
-    let starts: [(&str, &[&str]); 9] = [
+    let starts: [(&str, &[&str]); 11] = [
         (SECOND, &[]),
         (SECOND, &[LONG]),
+        (SECOND, &["--tallies"]),
+        (SECOND, &["--tallies", LONG]),
         (TAPES, &["--help"]),
         (TAPES, &["--seed", "1", "--events", "50000"]),
         (TAPES, &["--report", LONG]),
