@@ -1,6 +1,6 @@
 -- By which number a tape is refused, and where: each of 30 to 34 exactly in its case.
 use mathlib.Core.Path.{_≡_, refl, sym, ap, _∙_}
-use mathlib.Core.Bool.{Bool, true, false, cond}
+use mathlib.Core.Bool.{Bool, true, false}
 use mathlib.Core.Logic.{_↔_, _⊎_, inl, inr, ⊎-elim}
 use mathlib.Core.List.{List, _∷_}
 use Prim.Native.Nat.{ℕ, zero, suc, _*_, _≤_, _<_}
@@ -19,7 +19,7 @@ use Rattle.entry.specs.Numbers.{entryNumbers, bulk, from1to}
 use Rattle.entry.specs.NumberLaws.{from1to-bounds}
 use Rattle.tape.specs.declared.Event.{Event}
 use Rattle.tape.specs.declared.Event.the-variants.{Settings, Away, Submit, Turn, Open}
-use Rattle.tape.specs.declared.Reading.the-variants.{Refused, End}
+use Rattle.tape.specs.declared.Reading.the-variants.{Refused}
 use Rattle.tape.specs.Tape.{Form, whole, bad, more, numbers, settingsNumbers, settingsOf, settings, awayOf, away, entries, submit, kinds, formIn, formOf, event, reading, eventAt}
 use Rattle.tape.specs.Kinds.{Each, all, _also_, NoneHas, each-or-none, none-has}
 use Rattle.tape.specs.Steps.{entries-bad, entries-several}
@@ -59,13 +59,17 @@ numbers-none zero f = none-whole
 numbers-none (suc n) f = none-more (λ v. numbers-none n (λ vs. f (v ∷ vs)))
 
 module _ (s : List ℕ) (code p : ℕ) where
+  -- what is refused at a number's place by the number's own refusal
+  same-refusal : {k at : ℕ} → numberAt s at ≡ number.Refused k → Refused k at ≡ Refused code p → numberAt s p ≡ number.Refused code
+  same-refusal {k} {at} r same = let e : at ≡ p = cc in let c : k ≡ code = cc in rw (e, c) at r
+
   -- it is refused by the bytes of a number alone
   by-bytes : (form : Form) (last at : ℕ) → NoneBad form → reading form s last at ≡ Refused code p → numberAt s p ≡ number.Refused code
   unfolding reading
   by-bytes (whole e) last at none q = absurd (refused-read code p e at (sym q))
   by-bytes (more f) last at (none-more none) q = elim (answer (numberAt s at)) [
     | is-read v next r ↦ by-bytes (f v) at next (none v) (rw r at q)
-    | is-refused k r ↦ (let same : Refused k at ≡ Refused code p = rw r at q in let z : at ≡ p = cc in let c : k ≡ code = cc in rw (z, c) at r)
+    | is-refused k r ↦ same-refusal r (rw r at q)
   ]
 
   -- so by 30 to 32
@@ -105,9 +109,9 @@ module _ (s : List ℕ) (code p : ℕ) where
     submit-known q = elim (answer (numberAt s next)) [
       | is-read tenant from r ↦ elim (answer (numberAt s from)) [
         | is-read count end z ↦ go tenant from count end r z (from1to bulk count) refl (rw (r, z) at q)
-        | is-refused k z ↦ inl (let same : Refused k from ≡ Refused code p = rw (r, z) at q in let e : from ≡ p = cc in let c : k ≡ code = cc in rw (e, c) at z)
+        | is-refused k z ↦ inl (same-refusal z (rw (r, z) at q))
       ]
-      | is-refused k r ↦ inl (let same : Refused k next ≡ Refused code p = rw r at q in let e : next ≡ p = cc in let c : k ≡ code = cc in rw (e, c) at r)
+      | is-refused k r ↦ inl (same-refusal r (rw r at q))
     ]
       where
         go : (tenant from count end : ℕ) → numberAt s next ≡ number.Read tenant from → numberAt s from ≡ number.Read count end
@@ -163,7 +167,7 @@ why s at code p q = ⊎-elim (λ h. go (sym (on-tape s at h) ∙ q)) (λ h. absu
   where
     go : reading event s at at ≡ Refused code p → Why s at p code
     go f = elim (answer (numberAt s at)) [
-      | is-refused k r ↦ bytes (let same : Refused k at ≡ Refused code p = rw r at f in let e : at ≡ p = cc in let c : k ≡ code = cc in rw (e, c) at r)
+      | is-refused k r ↦ bytes (same-refusal s code p r (rw r at f))
       | is-read kind next r ↦ ⊎-elim
           (λ known. ⊎-elim bytes (λ (c, of-count). rw c (counts (of-count r))) (known (rw r at f)))
           (λ none.
