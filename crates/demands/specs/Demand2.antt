@@ -1,5 +1,6 @@
 -- Demand 2, as statements: each call answers by the rules of document 01. The proofs stand in Demand2Refusals,
--- Demand2Stores, Demand2Turn, Demand2Fills and Demand2Opening, and together in Demand2Proof.
+-- Demand2Stores, Demand2Turn, Demand2Fills and Demand2Opening. Demand2Rows goes on with what a turn leaves row by row,
+-- and Demand2Whole has all of them.
 use mathlib.Core.Path.{_≡_}
 use mathlib.Core.Logic.{_↔_, _⊎_}
 use mathlib.Core.Bool.{true, false}
@@ -417,11 +418,3 @@ pub record OpenedRight : Type 0 where
   pub opens : (m : Market) (lent : ℕ) (was : List ℕ) (price volume : ℕ) → Sound m → openPrinted m lent was ≡ openedAt price volume
       → (openOf m lent was .market .session .opened ≡ true) × Uncrossed (openOf m lent was .market .book)
   pub never : (m : Market) → Sound m → m .session .accepted ≡ true → m .session .opened ≡ true → Uncrossed (m .book)
-
--- Demand 2, whole.
-pub record Demand2 : Type 0 where
-  pub refusals : RefusedInOrder
-  pub stores : AcceptedStores
-  pub turn-downs : TurnedDownInOrder
-  pub fills : OrdersFilled
-  pub opening : OpenedRight
