@@ -23,11 +23,12 @@ use Rattle.dealing.specs.declared.Came.{Came}
 use Rattle.dealing.specs.declared.Came.the-variants as came
 use Rattle.dealing.specs.Floor.{Made, nextAfter}
 use Rattle.dealing.specs.Deal.{quotesOn, standingOn, dealt}
+use Rattle.dealing.specs.Open.{unset}
 use Rattle.session.specs.declared.Session.{Session}
 use Rattle.session.specs.declared.Turned.{Turned}
 use Rattle.session.specs.declared.TurnAnswer.{TurnAnswer}
 use Rattle.session.specs.declared.TurnAnswer.the-variants as answer
-use Rattle.session.specs.Market.{Market, Done, marketOf, withLanes, withNext, withTallies, floorOn, unset}
+use Rattle.session.specs.Market.{Market, Done, marketOf, withLanes, withNext, withTallies, floorOn}
 
 abbrev pub TurnDone : Type 0
 TurnDone = Done TurnAnswer
@@ -89,7 +90,7 @@ nobody Nobody = true
 -- 1,000,000,000,000,000,000 turns taken in all
 abbrev pub turnCases : Session → ℕ → List Case
 turnCases s lent =
-    unset s
+    unset (s .accepted)
     ∷ (5 when nobody (served (s .lanes)))
     ∷ (6 when ltb lent rows)
     ∷ (35 when leb mostTurns (turnsInAll (s .tallies)))
