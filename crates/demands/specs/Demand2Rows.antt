@@ -23,15 +23,15 @@ pub record RowIs (b : Book) (i side price size tenant number : ℕ) : Type 0 whe
   pub tenant-is : ownerAt b i ≡ tenant
   pub number-is : numberAt b i ≡ number
 
--- row i holds what it held, with such a size
+-- row i is as it was in every column but its size, which is now this
 abbrev pub KeptAt : Book → ℕ → ℕ → Book → Type 0
 KeptAt b i size after = RowIs after i (sideAt b i) (priceAt b i) size (ownerAt b i) (numberAt b i)
 
--- every row holds what it held, each with its size
+-- every row is so, each with its own size
 abbrev pub RowsKept : Book → (ℕ → ℕ) → Book → Type 0
 RowsKept b sizes after = (i : ℕ) → i < b .places → KeptAt b i (sizes i) after
 
--- an order has come to rest: a row that was free holds it, and every other row holds what it held, each with its size
+-- an order has come to rest: a row that was free holds it, and every other row is as it was but for its size
 pub record ComesToRest (b : Book) (sizes : ℕ → ℕ) (side price size tenant number : ℕ) (after : Book) : Type 0 where
   pub row : ℕ
   pub place : row < b .places
