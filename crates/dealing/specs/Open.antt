@@ -48,12 +48,16 @@ sourcesIn s = record { bid = s .away .bid; offer = s .away .offer; print = s .te
 unfoldable pub choiceIn : Series → Choice
 choiceIn s = priceOf (sourcesIn s)
 
+-- 21 no accepted settings yet: the first refusal of every call but settings
+abbrev pub unset : Bool → Case
+unset accepted = 21 when isNot accepted
+
 module _ (accepted : Bool) (s : Series) (b : Book) (lent : ℕ) where
   -- the numbers in the order of checking: 21 no accepted settings yet, 9 already open, 6 fewer than 216 fill records lent,
   -- 20 no valid opening price, given in no other case than that some resting buy is at or above a resting sell
   abbrev pub wayCases : List Case
   wayCases =
-      (21 when isNot accepted)
+      unset accepted
       ∷ (9 when s .opened)
       ∷ (6 when ltb lent rows)
       ∷ (20 when crosses b and noneValid (choiceIn s))

@@ -1,5 +1,6 @@
 -- Demand 2, as statements: each call answers by the rules of document 01. The proofs stand in Demand2Refusals,
--- Demand2Stores, Demand2Turn, Demand2Fills and Demand2Opening, and together in Demand2Proof.
+-- Demand2Stores, Demand2Turn, Demand2Fills and Demand2Opening. Demand2Rows goes on with what a turn leaves row by row,
+-- and Demand2Whole has all of them.
 use mathlib.Core.Path.{_≡_}
 use mathlib.Core.Logic.{_↔_, _⊎_}
 use mathlib.Core.Bool.{true, false}
@@ -7,7 +8,6 @@ use mathlib.Core.List.{List, [], _∷_, _++_}
 use Prim.Native.Nat.{ℕ, _+_, _-_, _*_, _/_, _≤_, _<_, min}
 use lib.ListN.{length, take}
 use Rattle.units.specs.declared.Cents.{Cents}
-use Rattle.units.specs.declared.Contracts.{Contracts}
 use Rattle.units.specs.declared.grid.Grid.{Grid}
 use Rattle.units.specs.declared.grid.Chosen.the-variants.{One}
 use Rattle.units.specs.Units.{cents, contracts, tenants}
@@ -38,18 +38,36 @@ use Rattle.lanes.specs.Waiting.{waiting, givenIn}
 use Rattle.price.specs.declared.Choice.the-variants.{At}
 use Rattle.price.specs.PriceLaws.{First, NoneUsable}
 use Rattle.tally.specs.Tallies.{turnsInAll}
-use Rattle.session.specs.declared.TurnAnswer.{TurnAnswer}
-use Rattle.session.specs.declared.TurnAnswer.the-variants as turn-answer
-use Rattle.session.specs.declared.OpenAnswer.the-variants as open-answer
 use Rattle.session.specs.Market.{Market, marketOf, withAway}
 use Rattle.dealing.specs.Settle.{opposite}
 use Rattle.session.specs.Settings.{resetOn, settingsOf, awayOf}
 use Rattle.session.specs.Submit.{withEntries, submitOf}
-use Rattle.session.specs.Turn.{quotesIn, standingOf, turnOf}
-use Rattle.session.specs.Open.{sourcesOf, openOf}
+use Rattle.session.specs.Turn.{Printed, refused as refusedBy, turnedDownBy, cancelledAs, acceptedAs, printed, fillsIn, quotesIn, standingOf, turnOf}
+use Rattle.session.specs.Open.{Line, refusedBy as openRefusedBy, openedAt, printed as printedOpen, fillsIn as fillsOpened, sourcesOf, openOf}
 use Rattle.session.specs.Sound.{Sound}
 use Rattle.demands.specs.Runs.{headEntry}
 use Rattle.demands.specs.InOrder.{Rule, _if_, NoneOf, ruled, GivenInOrder}
+
+-- ---- answers, in the paper's numbers
+
+-- what a turn answers, what an open does, and how many fill records each wrote
+module _ (m : Market) (lent : ℕ) (was : List ℕ) where
+  abbrev pub turnPrinted : Printed
+  turnPrinted = printed (turnOf m lent was .answer)
+
+  abbrev pub turnFills : ℕ
+  turnFills = fillsIn (turnOf m lent was .answer)
+
+  abbrev pub openPrinted : Line
+  openPrinted = printedOpen (openOf m lent was .answer)
+
+  abbrev pub openFills : ℕ
+  openFills = fillsOpened (openOf m lent was .answer)
+
+-- the values are those of an accepted order: 5 is the disposition of an accepted cancel alone
+pub record OrderAccepted (p : Printed) (t number filled disposition : ℕ) : Type 0 where
+  pub values : p ≡ acceptedAs t number filled disposition
+  pub no-cancel : disposition < 5
 
 -- ---- refusal numbers, in order of checking
 
@@ -130,11 +148,9 @@ pub record RefusedInOrder : Type 0 where
   pub submit : (m : Market) (tenant count : ℕ) (ns : List ℕ)
       → GivenInOrder (submitRules m tenant count ns) (λ n. submitOf m tenant count ns .code ≡ n) (submitOf m tenant count ns .code ≡ 0)
   pub turn : (m : Market) (lent : ℕ) (was : List ℕ)
-      → GivenInOrder (turnRules m lent) (λ n. turnOf m lent was .answer ≡ turn-answer.Refused n)
-      ((n : ℕ) → turnOf m lent was .answer ≡ turn-answer.Refused n → ⊥)
+      → GivenInOrder (turnRules m lent) (λ n. turnPrinted m lent was ≡ refusedBy n) ((n : ℕ) → turnPrinted m lent was ≡ refusedBy n → ⊥)
   pub open-call : (m : Market) (lent : ℕ) (was : List ℕ)
-      → GivenInOrder (openRules m lent) (λ n. openOf m lent was .answer ≡ open-answer.Refused n)
-      ((n : ℕ) → openOf m lent was .answer ≡ open-answer.Refused n → ⊥)
+      → GivenInOrder (openRules m lent) (λ n. openPrinted m lent was ≡ openRefusedBy n) (openPrinted m lent was .code ≡ 0)
   -- a sound book crosses exactly where some resting buy is at or above a resting sell
   pub crossing : (m : Market) → Sound m → m .session .accepted ≡ true → (crosses (m .book) ≡ true) ↔ Crossing (m .book)
 
@@ -190,38 +206,37 @@ pub record RestsAs (b : Book) (t number i : ℕ) : Type 0 where
   pub numbered : numberAt b i ≡ number
 
 -- an order is accepted with the next number
-pub record AcceptedBy (m : Market) (t : ℕ) (answer : TurnAnswer) : Type 0 where
-  pub filled : Contracts
+pub record AcceptedBy (m : Market) (t : ℕ) (p : Printed) : Type 0 where
+  pub filled : ℕ
   pub disposition : ℕ
-  pub fills : ℕ
-  pub is : answer ≡ turn-answer.Accepted t (m .session .next) filled disposition fills
+  pub order : OrderAccepted p t (m .session .next) filled disposition
 
 pub record TurnedDownInOrder : Type 0 where
   -- a turn that is not refused is taken, and serves the first non-empty lane at or after the rotation place
-  pub taken : (m : Market) (lent : ℕ) (was : List ℕ) → ((n : ℕ) → turnOf m lent was .answer ≡ turn-answer.Refused n → ⊥) → (t : ℕ) × TakenBy m lent t
+  pub taken : (m : Market) (lent : ℕ) (was : List ℕ) → ((n : ℕ) → turnPrinted m lent was ≡ refusedBy n → ⊥) → (t : ℕ) × TakenBy m lent t
   pub first-lane : (m : Market) (lent t : ℕ) → Sound m → TakenBy m lent t → FirstBusy (waits (m .session .lanes)) (m .session .lanes .place) t
   -- it removes that lane's head entry and moves the place to the tenant after it, also when the entry is turned down
   pub moves : (m : Market) (lent t : ℕ) (was : List ℕ) → TakenBy m lent t → turnOf m lent was .market .session .lanes ≡ laneTaken (m .session .lanes) t
   -- a new order is turned down by the first that applies, and else accepted
   pub order : (m : Market) (lent t : ℕ) (was : List ℕ) → TakenBy m lent t → isCancel (headEntry m t) ≡ false
-      → GivenInOrder (turnDownRules m t) (λ n. turnOf m lent was .answer ≡ turn-answer.TurnedDown t n) (AcceptedBy m t (turnOf m lent was .answer))
+      → GivenInOrder (turnDownRules m t) (λ n. turnPrinted m lent was ≡ turnedDownBy t n) (AcceptedBy m t (turnPrinted m lent was))
   -- 17 exactly where the tenant's own 24 rest and the order might rest, none before it applying
   pub row-room : (m : Market) (lent t : ℕ) (was : List ℕ) → Sound m → TakenBy m lent t → isCancel (headEntry m t) ≡ false
-      → (turnOf m lent was .answer ≡ turn-answer.TurnedDown t 17)
+      → (turnPrinted m lent was ≡ turnedDownBy t 17)
       ↔ (NoneOf (take 7 (turnDownRules m t)) × (mightRest (judged m t) ≡ true) × (restingOf (m .book) t ≡ 24))
   -- a cancel: 18 unless that number rests and is that tenant's; an accepted one gives the cancelled order's number
   pub cancel-refused : (m : Market) (lent t : ℕ) (was : List ℕ) → TakenBy m lent t → isCancel (headEntry m t) ≡ true
-      → (turnOf m lent was .answer ≡ turn-answer.TurnedDown t 18) ↔ ((i : ℕ) → RestsAs (m .book) t (headEntry m t .number) i → ⊥)
+      → (turnPrinted m lent was ≡ turnedDownBy t 18) ↔ ((i : ℕ) → RestsAs (m .book) t (headEntry m t .number) i → ⊥)
   pub cancel-accepted : (m : Market) (lent t : ℕ) (was : List ℕ) → TakenBy m lent t → isCancel (headEntry m t) ≡ true
-      → (turnOf m lent was .answer ≡ turn-answer.Cancelled t (headEntry m t .number)) ↔ ((i : ℕ) × RestsAs (m .book) t (headEntry m t .number) i)
+      → (turnPrinted m lent was ≡ cancelledAs t (headEntry m t .number)) ↔ ((i : ℕ) × RestsAs (m .book) t (headEntry m t .number) i)
   -- once open, each disposition is given exactly in its case; 1 where none applies
-  pub disposed : (m : Market) (lent : ℕ) (was : List ℕ) (t number : ℕ) (filled : Contracts) (disposition fills : ℕ)
-      → m .session .opened ≡ true → turnOf m lent was .answer ≡ turn-answer.Accepted t number filled disposition fills
-      → GivenInOrder (dispositionRules m t (judged m t .size .0 - filled .0)) (λ n. disposition ≡ n) (disposition ≡ 1)
+  pub disposed : (m : Market) (lent : ℕ) (was : List ℕ) (t number filled disposition : ℕ)
+      → m .session .opened ≡ true → OrderAccepted (turnPrinted m lent was) t number filled disposition
+      → GivenInOrder (dispositionRules m t (judged m t .size .0 - filled)) (λ n. disposition ≡ n) (disposition ≡ 1)
   -- before opening a day limit simply rests
-  pub simply-rests : (m : Market) (lent : ℕ) (was : List ℕ) (t number : ℕ) (filled : Contracts) (disposition fills : ℕ)
-      → m .session .opened ≡ false → turnOf m lent was .answer ≡ turn-answer.Accepted t number filled disposition fills
-      → (filled .0 ≡ 0) × (disposition ≡ 1) × (fills ≡ 0)
+  pub simply-rests : (m : Market) (lent : ℕ) (was : List ℕ) (t number filled disposition : ℕ)
+      → m .session .opened ≡ false → OrderAccepted (turnPrinted m lent was) t number filled disposition
+      → (filled ≡ 0) × (disposition ≡ 1) × (turnFills m lent was ≡ 0)
 
 -- ---- fills, once open
 
@@ -328,12 +343,12 @@ pub record LeftRight (m : Market) (t number filled disposition : ℕ) (b : Book)
 
 -- Every accepted order of every sound open market is filled so.
 pub record OrdersFilled : Type 0 where
-  pub filled : (m : Market) (lent : ℕ) (was : List ℕ) (t number : ℕ) (filled : Contracts) (disposition fills : ℕ) → Sound m → m .session .opened ≡ true
-      → turnOf m lent was .answer ≡ turn-answer.Accepted t number filled disposition fills
+  pub filled : (m : Market) (lent : ℕ) (was : List ℕ) (t number filled disposition : ℕ) → Sound m → m .session .opened ≡ true
+      → OrderAccepted (turnPrinted m lent was) t number filled disposition
       → (number ≡ m .session .next)
-      × FilledRight m t (filled .0)
-      × RecordedRight m t was fills (turnOf m lent was .records)
-      × LeftRight m t number (filled .0) disposition (turnOf m lent was .market .book)
+      × FilledRight m t filled
+      × RecordedRight m t was (turnFills m lent was) (turnOf m lent was .records)
+      × LeftRight m t number filled disposition (turnOf m lent was .market .book)
 
 -- ---- the opening
 
@@ -394,23 +409,12 @@ pub record OpenedAt (m : Market) (was : List ℕ) (p traded fills : ℕ) (l : Li
 
 pub record OpenedRight : Type 0 where
   -- if no resting buy is at or above a resting sell, the series opens with price 0 and volume 0, and nothing trades
-  pub quiet : (m : Market) (lent : ℕ) (was : List ℕ) (price : Cents) (volume : Contracts) (fills : ℕ) → crosses (m .book) ≡ false
-      → openOf m lent was .answer ≡ open-answer.AtPrice price volume fills
-      → (price .0 ≡ 0) × (volume .0 ≡ 0) × (fills ≡ 0) × (openOf m lent was .market .book ≡ m .book) × (openOf m lent was .records ≡ was)
+  pub quiet : (m : Market) (lent : ℕ) (was : List ℕ) (price volume : ℕ) → crosses (m .book) ≡ false → openPrinted m lent was ≡ openedAt price volume
+      → (price ≡ 0) × (volume ≡ 0) × (openFills m lent was ≡ 0) × (openOf m lent was .market .book ≡ m .book) × (openOf m lent was .records ≡ was)
   -- otherwise it opens at the price chosen
-  pub at-price : (m : Market) (lent : ℕ) (was : List ℕ) (price : Cents) (volume : Contracts) (fills : ℕ) → Sound m → crosses (m .book) ≡ true
-      → openOf m lent was .answer ≡ open-answer.AtPrice price volume fills
-      → OpenedAt m was (price .0) (volume .0) fills (openOf m lent was .records) (openOf m lent was .market .book)
+  pub at-price : (m : Market) (lent : ℕ) (was : List ℕ) (price volume : ℕ) → Sound m → crosses (m .book) ≡ true → openPrinted m lent was ≡ openedAt price volume
+      → OpenedAt m was price volume (openFills m lent was) (openOf m lent was .records) (openOf m lent was .market .book)
   -- an open book is never locked or crossed: not once opened, and not in any sound market
-  pub opens : (m : Market) (lent : ℕ) (was : List ℕ) (price : Cents) (volume : Contracts) (fills : ℕ) → Sound m
-      → openOf m lent was .answer ≡ open-answer.AtPrice price volume fills
+  pub opens : (m : Market) (lent : ℕ) (was : List ℕ) (price volume : ℕ) → Sound m → openPrinted m lent was ≡ openedAt price volume
       → (openOf m lent was .market .session .opened ≡ true) × Uncrossed (openOf m lent was .market .book)
   pub never : (m : Market) → Sound m → m .session .accepted ≡ true → m .session .opened ≡ true → Uncrossed (m .book)
-
--- Demand 2, whole.
-pub record Demand2 : Type 0 where
-  pub refusals : RefusedInOrder
-  pub stores : AcceptedStores
-  pub turn-downs : TurnedDownInOrder
-  pub fills : OrdersFilled
-  pub opening : OpenedRight

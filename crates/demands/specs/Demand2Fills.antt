@@ -27,7 +27,7 @@ use Rattle.book.specs.Trading.{reach, filled as filledBy, traded, afterTrade, t
 use Rattle.book.specs.TradingLaws.{traded-open, traded-most, traded-side, all-traded}
 use Rattle.entry.specs.declared.Away.{Away}
 use Rattle.entry.specs.declared.Entry.{Entry}
-use Rattle.entry.specs.Entry.{isCancel, isBuy, isSell}
+use Rattle.entry.specs.Entry.{isCancel, isBuy, isSell, newOrder}
 use Rattle.entry.specs.EntryLaws.{new-proper, new-unless-cancel}
 use Rattle.checks.specs.AsJudgedLaws.{judged-proper}
 use Rattle.judge.specs.BoundLaws.{buy-limit, buy-away, sell-limit, sell-away}
@@ -38,7 +38,7 @@ use Rattle.session.specs.Sound.{Sound}
 use Rattle.session.specs.Turn.{quotesIn, turnOf}
 use Rattle.demands.specs.Runs.{headEntry}
 use Rattle.demands.specs.TurnCases.{quotes-away}
-use Rattle.demands.specs.Demand2.{TakenBy, judged, boundIn, opensAt, trades, onceTraded, FilledRight, RecordAt, RecordedRight, LeftRight, OrdersFilled}
+use Rattle.demands.specs.Demand2.{turnFills, TakenBy, judged, boundIn, opensAt, trades, onceTraded, FilledRight, RecordAt, RecordedRight, LeftRight, OrdersFilled}
 use Rattle.demands.specs.Demand2Turn.{set-in, taken-by, serves-first, accepted-served, accepted-traded}
 
 -- ---- one row
@@ -273,24 +273,27 @@ module _ (m : Market) (ready : Ready (floorOn (m .session) (m .book))) (t : ℕ)
     taken-off = λ i p. table-at _ (b .places) i p;
   }
 
--- the head entry of a lane served is well-formed, so an order that trades buys or sells
+-- the head entry of a lane served is well-formed
+pub new-in : (m : Market) (lent t : ℕ) → Sound m → TakenBy m lent t → isCancel (headEntry m t) ≡ false → newOrder (headEntry m t) ≡ true
+new-in m lent t sound k new =
+    let first = serves-first m lent t sound k in
+    new-unless-cancel (headEntry m t) (sound (set-in m lent t k) .lanes .formed t 0 (first .lane) (ltb-true 0 _ (first .waits))) new
+
+-- so an order that trades buys or sells
 sides-of : (m : Market) (lent t : ℕ) → Sound m → TakenBy m lent t → isCancel (headEntry m t) ≡ false → (isBuy (judged m t) ≡ true) ⊎ (isSell (judged m t) ≡ true)
 sides-of m lent t sound k new =
-    let held = sound (set-in m lent t k) in
-    let first = serves-first m lent t sound k in
-    let formed = held .lanes .formed t 0 (first .lane) (ltb-true 0 _ (first .waits)) in
-    let proper = new-proper (headEntry m t) (new-unless-cancel (headEntry m t) formed new) in
-    judged-proper (headEntry m t) (quotesIn m) (m .session .terms) proper (held .ready .terms .low-least) (held .ready .terms .low-most) .sided
+    let terms = sound (set-in m lent t k) .ready .terms in
+    judged-proper (headEntry m t) (quotesIn m) (m .session .terms) (new-proper (headEntry m t) (new-in m lent t sound k new)) (terms .low-least) (terms .low-most) .sided
 
 pub orders-filled : OrdersFilled
 orders-filled = record {
-  filled = λ m lent was t number filled disposition fills sound opened is.
-      let k = taken-by m lent t (accepted-served m lent was t number filled disposition fills is) in
+  filled = λ m lent was t number filled disposition sound opened is.
+      let k = taken-by m lent t (accepted-served m lent was t number filled disposition is) in
       let ready = sound (set-in m lent t k) .ready in
-      let d = accepted-traded m lent was t number filled disposition fills is opened in (
+      let d = accepted-traded m lent was t number filled disposition is opened in (
         d .number-is,
-        filled-right m ready t (filled .0) (d .filled-is) (sides-of m lent t sound k (d .new)),
-        recorded-right m ready t was fills (turnOf m lent was .records) (d .fills-is) (d .records-are),
-        left-right m ready t number (filled .0) disposition (turnOf m lent was .market .book) (d .book-is),
+        filled-right m ready t filled (d .filled-is) (sides-of m lent t sound k (d .new)),
+        recorded-right m ready t was (turnFills m lent was) (turnOf m lent was .records) (d .fills-is) (d .records-are),
+        left-right m ready t number filled disposition (turnOf m lent was .market .book) (d .book-is),
       );
 }

@@ -1,14 +1,12 @@
 -- Demand 2's opening: the laws of the match at one price, told of an accepted open.
 use mathlib.Core.Path.{_≡_, refl, sym, _∙_, ap, subst}
 use mathlib.Core.Logic.{_↔_, _⊎_, inl, inr, ⊎-elim}
-use mathlib.Core.Bool.{Bool, true, false, _&&_, _||_, cond, and-eq-true-iff, true≢false}
+use mathlib.Core.Bool.{Bool, true, false, _&&_, _||_, cond, and-eq-true-iff}
 use mathlib.Core.List.{List}
 use Prim.Native.Nat.{ℕ, _+_, _-_, _≤_, _<_}
 use native.Mathlib.Omega.{arith}
 use lib.Dec.{leb, ltb, eqb}
 use borrow.Author.Tests.{lt-ltb, le-leb, eq-eqb, ltb-true, leb-true, eqb-true}
-use Rattle.units.specs.declared.Cents.{Cents}
-use Rattle.units.specs.declared.Contracts.{Contracts}
 use Rattle.units.specs.Units.{cents}
 use Rattle.units.specs.Tests.{fails, holds-not-fails}
 use Rattle.units.specs.Places.{table-at}
@@ -30,12 +28,9 @@ use Rattle.book.specs.Trading.{reach, traded}
 use Rattle.book.specs.TradingLaws.{open-side, traded-open}
 use Rattle.price.specs.declared.Choice.the-variants.{At}
 use Rattle.price.specs.PriceLaws.{First}
-use Rattle.session.specs.declared.OpenAnswer.{OpenAnswer}
-use Rattle.session.specs.declared.OpenAnswer.the-variants as answer
 use Rattle.session.specs.Market.{Market}
-use Rattle.session.specs.Open.{OpenDone, printed, fillsIn, sourcesOf, openQuiet, openAt}
+use Rattle.session.specs.Open.{OpenDone, Line, refusedBy, openedAt, printed, fillsIn, sourcesOf, openQuiet, openAt}
 use Rattle.session.specs.Sound.{Sound}
-use Rattle.demands.specs.Runs.{opened, isRefused}
 use Rattle.demands.specs.Demand2.{onceFilled, Cancelled, OpenedAt, OpenedRight}
 use Rattle.demands.specs.OpenCases.{Outcome, refused, quiet, opens, open-set, outcome}
 use Rattle.demands.specs.Demand2Fills.{offers-before, bids-before, record-of, past-records, best, early}
@@ -181,40 +176,42 @@ module _ (m : Market) (was : List ℕ) (next : ℕ) (sound : SoundBook (m .book)
     stays = opened-stays m p;
   }
 
-abbrev refuses : OpenAnswer → Bool
-refuses a = isRefused (opened a)
+module _ (m : Market) (lent : ℕ) (was : List ℕ) (price traded : ℕ) where
+  -- the answer has the values of this opening
+  abbrev Answers : OpenDone → Type 0
+  Answers d = printed (d .answer) ≡ openedAt price traded
 
-module _ (m : Market) (lent : ℕ) (was : List ℕ) (price : Cents) (traded : Contracts) (fills : ℕ) where
-  abbrev accepted : OpenAnswer
-  accepted = answer.AtPrice price traded fills
+  -- a refused open does not
+  not-refused : (n : ℕ) → 0 < n → refusedBy n ≡ openedAt price traded → ⊥
+  not-refused n h x = omega (arith, ap (λ (l : Line). l .code) x)
 
-  opens-quietly : crosses (m .book) ≡ false → {d : OpenDone} → Outcome m lent was d → d .answer ≡ accepted
-      → (price .0 ≡ 0) × (traded .0 ≡ 0) × (fills ≡ 0) × (d .market .book ≡ m .book) × (d .records ≡ was)
+  opens-quietly : crosses (m .book) ≡ false → {d : OpenDone} → Outcome m lent was d → Answers d
+      → (price ≡ 0) × (traded ≡ 0) × (fillsIn (d .answer) ≡ 0) × (d .market .book ≡ m .book) × (d .records ≡ was)
   unfolding openQuiet
-  opens-quietly h (refused n) x = absurd (true≢false (ap refuses x))
-  opens-quietly h (quiet e c) x = (sym (ap (λ a. printed a .price) x), sym (ap (λ a. printed a .volume) x), sym (ap fillsIn x), refl, refl)
+  opens-quietly h (refused n) x = absurd (not-refused _ n x)
+  opens-quietly h (quiet e c) x = (sym (ap (λ (l : Line). l .price) x), sym (ap (λ (l : Line). l .volume) x), refl, refl, refl)
   opens-quietly h (opens p e c f) x = absurd (holds-not-fails c h)
 
-  opens-at : Sound m → crosses (m .book) ≡ true → {d : OpenDone} → Outcome m lent was d → d .answer ≡ accepted
-      → OpenedAt m was (price .0) (traded .0) fills (d .records) (d .market .book)
+  opens-at : Sound m → crosses (m .book) ≡ true → {d : OpenDone} → Outcome m lent was d → Answers d
+      → OpenedAt m was price traded (fillsIn (d .answer)) (d .records) (d .market .book)
   unfolding openAt
-  opens-at sound h (refused n) x = absurd (true≢false (ap refuses x))
+  opens-at sound h (refused n) x = absurd (not-refused _ n x)
   opens-at sound h (quiet e c) x = absurd (holds-not-fails h c)
   opens-at sound h (opens p e c f) x =
-      subst (λ k. OpenedAt m was k (traded .0) fills (openingWritten (m .book) (p .0) was) (afterOpening (m .book) (p .0))) (ap (λ a. printed a .price) x)
-      (opened-at m was (m .session .next) (sound (open-set m lent e) .ready .book) (p .0) (traded .0) fills f (sym (ap (λ a. printed a .volume) x)) (sym (ap fillsIn x)))
+      subst (λ k. OpenedAt m was k traded (openingRecords (m .book) (p .0)) (openingWritten (m .book) (p .0) was) (afterOpening (m .book) (p .0))) (ap (λ (l : Line). l .price) x)
+      (opened-at m was (m .session .next) (sound (open-set m lent e) .ready .book) (p .0) traded (openingRecords (m .book) (p .0)) f (sym (ap (λ (l : Line). l .volume) x)) refl)
 
-  opens-uncrossed : Sound m → {d : OpenDone} → Outcome m lent was d → d .answer ≡ accepted
+  opens-uncrossed : Sound m → {d : OpenDone} → Outcome m lent was d → Answers d
       → (d .market .session .opened ≡ true) × Uncrossed (d .market .book)
   unfolding openAt openQuiet
-  opens-uncrossed sound (refused n) x = absurd (true≢false (ap refuses x))
+  opens-uncrossed sound (refused n) x = absurd (not-refused _ n x)
   opens-uncrossed sound (quiet e c) x = (refl, quiet-uncrossed (sound (open-set m lent e) .ready .book) c)
   opens-uncrossed sound (opens p e c f) x = (refl, opening-uncrossed (sound (open-set m lent e) .ready .book) (p .0))
 
 pub opened-right : OpenedRight
 opened-right = record {
-  quiet = λ m lent was price volume fills h is. opens-quietly m lent was price volume fills h (outcome m lent was) is;
-  at-price = λ m lent was price volume fills sound h is. opens-at m lent was price volume fills sound h (outcome m lent was) is;
-  opens = λ m lent was price volume fills sound is. opens-uncrossed m lent was price volume fills sound (outcome m lent was) is;
+  quiet = λ m lent was price volume h is. opens-quietly m lent was price volume h (outcome m lent was) is;
+  at-price = λ m lent was price volume sound h is. opens-at m lent was price volume sound h (outcome m lent was) is;
+  opens = λ m lent was price volume sound is. opens-uncrossed m lent was price volume sound (outcome m lent was) is;
   never = λ m sound set. sound set .uncrossed;
 }

@@ -1,9 +1,10 @@
 -- Demand 2 holds.
-use Rattle.demands.specs.Demand2.{Demand2}
+use Rattle.demands.specs.Demand2Whole.{Demand2}
 use Rattle.demands.specs.Demand2Refusals.{refused-in-order}
 use Rattle.demands.specs.Demand2Stores.{accepted-stores}
 use Rattle.demands.specs.Demand2Turn.{turned-down-in-order}
 use Rattle.demands.specs.Demand2Fills.{orders-filled}
+use Rattle.demands.specs.Demand2RowsProof.{rows-right}
 use Rattle.demands.specs.Demand2Opening.{opened-right}
 
 pub demand2 : Demand2
@@ -12,5 +13,6 @@ demand2 = record {
   stores = accepted-stores;
   turn-downs = turned-down-in-order;
   fills = orders-filled;
+  rows = rows-right;
   opening = opened-right;
 }

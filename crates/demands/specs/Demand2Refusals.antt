@@ -1,7 +1,7 @@
 -- Demand 2's refusals: each call's list of tests reads as its rules.
-use mathlib.Core.Path.{_≡_, refl, ap}
+use mathlib.Core.Path.{_≡_, refl, sym, ap, _∙_}
 use mathlib.Core.Logic.{_↔_, _⊎_, inl, inr, ⊎-elim, ⊎-map}
-use mathlib.Core.Bool.{Bool, true, false, cond, _&&_}
+use mathlib.Core.Bool.{Bool, true, false, true≢false, cond, _&&_}
 use mathlib.Core.List.{List}
 use Prim.Native.Nat.{ℕ, _*_, _%_, _≤_, _<_}
 use native.Mathlib.Omega.{arith}
@@ -31,6 +31,7 @@ use Rattle.entry.specs.declared.Settings.{Settings}
 use Rattle.entry.specs.Settings.{seriesInRange, protectionsInRange, printsInRange, inRange}
 use Rattle.entry.specs.Entry.{malformed}
 use Rattle.lanes.specs.declared.Lanes.{Lanes}
+use Rattle.lanes.specs.declared.Served.the-variants.{Lane}
 use Rattle.lanes.specs.Ring.{entryAt, lenOf}
 use Rattle.lanes.specs.Rotation.{on, waits, distance, served}
 use Rattle.lanes.specs.Runs.{ahead}
@@ -40,21 +41,18 @@ use Rattle.session.specs.Settings.{tooHigh, awayCases, awayRefusal, awayOf}
 use Rattle.lanes.specs.Bulk.{wellCounted, someMalformed}
 use Rattle.session.specs.Submit.{submitCases, submitRefusal, submitOf}
 use Rattle.session.specs.declared.TurnAnswer.{TurnAnswer}
-use Rattle.session.specs.declared.TurnAnswer.the-variants as turn-answer
-use Rattle.session.specs.Turn.{TurnDone, nobody, turnCases, turnRefusal, turnOf}
-use Rattle.session.specs.declared.OpenAnswer.{OpenAnswer}
-use Rattle.session.specs.declared.OpenAnswer.the-variants as open-answer
+use Rattle.session.specs.Turn.{TurnDone, refused as refusedBy, printed, nobody, turnCases, turnRefusal}
 use Rattle.dealing.specs.Open.{choiceIn, wayRefusal}
-use Rattle.session.specs.Open.{OpenDone, printed, sourcesOf, choiceOf, openCases, openRefusal, openQuiet, openAt, openOf}
+use Rattle.session.specs.Open.{OpenDone, Line, refusedBy as openRefusedBy, printed as printedOpen, sourcesOf, choiceOf, openCases, openRefusal, openQuiet, openAt}
 use Rattle.demands.specs.InOrder.{NoneOf, GivenInOrder}
 use Rattle.demands.specs.InOrderLaws.{Reads, none-ruled, number-in-order, Comes, by-none, by-number, comes-in-order}
-use Rattle.demands.specs.Runs.{turned, opened, isRefused}
+use Rattle.demands.specs.Runs.{turned, laneIn}
 use Rattle.demands.specs.Outcomes as outcomes
 use Rattle.demands.specs.Outcomes.{SetCame, set-came, call-code, away-came, submit-came}
 use Rattle.demands.specs.TurnCases as turn-cases
-use Rattle.demands.specs.TurnCases.{lineOf, leaves}
+use Rattle.demands.specs.TurnCases.{valuesOf, laneTold, lane-told, leaves}
 use Rattle.demands.specs.OpenCases as open-cases
-use Rattle.demands.specs.Demand2.{InList, awayRules, submitRules, turnRules, openRules, Crossing, RefusedInOrder}
+use Rattle.demands.specs.Demand2.{turnPrinted, openPrinted, InList, awayRules, submitRules, turnRules, openRules, Crossing, RefusedInOrder}
 
 -- ---- tests and what they say
 
@@ -173,31 +171,29 @@ module _ (m : Market) (lent : ℕ) where
   turn-taken = none-ruled 0 (turnCases (m .session) lent) (turnRules m lent) refl turn-reads
 
 module _ (m : Market) (lent : ℕ) (was : List ℕ) where
-  turn-stands : {a : TurnAnswer} → isRefused (turned a) ≡ false → (n : ℕ) → a ≡ turn-answer.Refused n → ⊥
-  turn-stands h n x = holds-not-fails (ap (λ a. isRefused (turned a)) x) h
+  turn-stands : (a : TurnAnswer) (t : ℕ) → laneIn (turned a) ≡ Lane t → (n : ℕ) → printed a ≡ refusedBy n → ⊥
+  turn-stands a t h n x = true≢false (ap nobody (sym (ap laneTold x) ∙ (sym (lane-told a) ∙ h)))
 
   turn-comes : {d : TurnDone} → turn-cases.Outcome m lent was d
-      → Comes (turnRefusal (m .session) lent) (λ n. d .answer ≡ turn-answer.Refused n) ((n : ℕ) → d .answer ≡ turn-answer.Refused n → ⊥)
-  turn-comes (turn-cases.refused h) = by-number h refl (λ k x. ap (λ a. lineOf a .code) x) (λ f. f _ refl)
-  turn-comes (turn-cases.taken t s o) = let never = turn-stands (leaves m was t o .not-refused) in by-none (s .not-refused) never never
+      → Comes (turnRefusal (m .session) lent) (λ n. printed (d .answer) ≡ refusedBy n) ((n : ℕ) → printed (d .answer) ≡ refusedBy n → ⊥)
+  turn-comes (turn-cases.refused h) = by-number h refl (λ k x. ap (λ p. valuesOf p .code) x) (λ f. f _ refl)
+  turn-comes {d} (turn-cases.taken t s o) =
+      let never = turn-stands (d .answer) t (leaves m was t o .names) in
+      by-none (s .not-refused) never (λ n x. absurd (never n x))
 
-  turn-in-order : GivenInOrder (turnRules m lent) (λ n. turnOf m lent was .answer ≡ turn-answer.Refused n)
-      ((n : ℕ) → turnOf m lent was .answer ≡ turn-answer.Refused n → ⊥)
+  turn-in-order : GivenInOrder (turnRules m lent) (λ n. turnPrinted m lent was ≡ refusedBy n) ((n : ℕ) → turnPrinted m lent was ≡ refusedBy n → ⊥)
   unfolding turnRefusal
   turn-in-order = comes-in-order (turnCases (m .session) lent) (turnRules m lent) refl (turn-reads m lent) (turn-comes (turn-cases.outcome m lent was))
 
 -- ---- open
 
 module _ (m : Market) (lent : ℕ) (was : List ℕ) where
-  open-stands : {a : OpenAnswer} → isRefused (opened a) ≡ false → (n : ℕ) → a ≡ open-answer.Refused n → ⊥
-  open-stands h n x = holds-not-fails (ap (λ a. isRefused (opened a)) x) h
-
   open-comes : {d : OpenDone} → open-cases.Outcome m lent was d
-      → Comes (openRefusal m lent) (λ n. d .answer ≡ open-answer.Refused n) ((n : ℕ) → d .answer ≡ open-answer.Refused n → ⊥)
+      → Comes (openRefusal m lent) (λ n. printedOpen (d .answer) ≡ openRefusedBy n) (printedOpen (d .answer) .code ≡ 0)
   unfolding openAt openQuiet
-  open-comes (open-cases.refused h) = by-number h refl (λ k x. ap (λ a. printed a .code) x) (λ f. f _ refl)
-  open-comes (open-cases.quiet e c) = by-none e (open-stands refl) (open-stands refl)
-  open-comes (open-cases.opens p e c f) = by-none e (open-stands refl) (open-stands refl)
+  open-comes (open-cases.refused h) = by-number h refl (λ k x. ap (λ (l : Line). l .code) x) (λ e. omega arith)
+  open-comes (open-cases.quiet e c) = by-none e refl (λ k x. sym (ap (λ (l : Line). l .code) x))
+  open-comes (open-cases.opens p e c f) = by-none e refl (λ k x. sym (ap (λ (l : Line). l .code) x))
 
   no-price-says : (crosses (m .book) and noneValid (choiceOf (m .session)) ≡ true) ↔ ((crosses (m .book) ≡ true) × NoneUsable (sourcesOf (m .session)))
   unfolding choiceIn
@@ -208,8 +204,7 @@ module _ (m : Market) (lent : ℕ) (was : List ℕ) where
   open-reads : Reads (openCases m lent) (openRules m lent)
   open-reads = (refl, not-says _, (refl, (λ h. h, λ h. h), (refl, less-says _ _, (refl, no-price-says, tt))))
 
-  open-in-order : GivenInOrder (openRules m lent) (λ n. openOf m lent was .answer ≡ open-answer.Refused n)
-      ((n : ℕ) → openOf m lent was .answer ≡ open-answer.Refused n → ⊥)
+  open-in-order : GivenInOrder (openRules m lent) (λ n. openPrinted m lent was ≡ openRefusedBy n) (openPrinted m lent was .code ≡ 0)
   unfolding wayRefusal
   open-in-order = comes-in-order (openCases m lent) (openRules m lent) refl open-reads (open-comes (open-cases.outcome m lent was))
 

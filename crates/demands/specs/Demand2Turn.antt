@@ -1,14 +1,13 @@
 -- Demand 2's turns: turn-downs and dispositions, each exactly in its case.
-use mathlib.Core.Path.{_≡_, refl, sym, ap}
+use mathlib.Core.Path.{_≡_, refl, sym, ap, _∙_}
 use mathlib.Core.Logic.{_↔_}
 use mathlib.Core.Bool.{Bool, true, false, _&&_, and-eq-true-iff}
 use mathlib.Core.List.{List}
-use Prim.Native.Nat.{ℕ, _-_, _<_}
+use Prim.Native.Nat.{ℕ, _+_, _-_, _<_}
 use native.Mathlib.Omega.{arith}
 use lib.Dec.{ltb, eqb}
 use lib.ListN.{take}
 use borrow.Author.Tests.{lt-ltb, le-leb, leb-true, eq-eqb, ltb-true, eqb-true}
-use Rattle.units.specs.declared.Contracts.{Contracts}
 use Rattle.units.specs.Units.{contracts}
 use Rattle.units.specs.Tests.{pick, and-true, and-holds, holds-not-fails}
 use Rattle.units.specs.Firsts.{firstTo, first-holds, first-least}
@@ -20,15 +19,14 @@ use Rattle.checks.specs.TurnDown.{mightRest, noRoom, turnDowns, turnDown}
 use Rattle.judge.specs.Disposition.{dispositions, dispositionOf}
 use Rattle.lanes.specs.Rotation.{waits}
 use Rattle.lanes.specs.Runs.{FirstBusy}
-use Rattle.session.specs.declared.TurnAnswer.the-variants as turn-answer
 use Rattle.session.specs.Market.{Market}
 use Rattle.session.specs.Sound.{Sound}
-use Rattle.session.specs.Turn.{TurnDone, fillsIn, quotesIn, standingOf, turnOf}
-use Rattle.demands.specs.Runs.{turned, laneIn, headEntry}
+use Rattle.session.specs.Turn.{TurnDone, Printed, refused as refusedBy, turnedDownBy, cancelledAs, acceptedAs, printed, fillsIn, quotesIn, standingOf, turnOf}
+use Rattle.demands.specs.Runs.{headEntry}
 use Rattle.demands.specs.InOrder.{NoneOf, GivenInOrder}
 use Rattle.demands.specs.InOrderLaws.{reads-itself, number-in-order, Comes, by-none, by-number, comes-in-order}
-use Rattle.demands.specs.TurnCases.{kindOf, lineOf, downBy, filledIn, fillsBy, tradeDone, CancelOf, cancels, no-such, OrderOf, turned-down, rests, trades, OutcomeOf, of-cancel, of-order, first-busy, ServedAs, served-set, served-outcome, served-leaves, named, Outcome, refused, taken, outcome}
-use Rattle.demands.specs.Demand2.{TakenBy, turnDownRules, judged, dispositionRules, onceTraded, RestsAs, AcceptedBy, TurnedDownInOrder}
+use Rattle.demands.specs.TurnCases.{valuesOf, laneTold, lane-told, downBy, filledIn, disposed-less, fillsBy, tradeDone, CancelOf, cancels, no-such, OrderOf, turned-down, rests, trades, OutcomeOf, of-cancel, of-order, first-busy, ServedAs, served-set, served-outcome, served-leaves, named, Outcome, refused, taken, outcome}
+use Rattle.demands.specs.Demand2.{turnPrinted, turnFills, OrderAccepted, TakenBy, turnDownRules, judged, dispositionRules, onceTraded, RestsAs, AcceptedBy, TurnedDownInOrder}
 use Rattle.demands.specs.Demand2Refusals.{turn-taken}
 
 -- ---- the lane served
@@ -46,7 +44,7 @@ pub serves-first : (m : Market) (lent t : ℕ) → Sound m → TakenBy m lent t 
 serves-first m lent t sound k = first-busy m t (sound (set-in m lent t k) .lanes .marks .place) (k .lane)
 
 module _ (m : Market) (lent : ℕ) (was : List ℕ) where
-  turn-is-taken : {d : TurnDone} → Outcome m lent was d → ((n : ℕ) → d .answer ≡ turn-answer.Refused n → ⊥) → (t : ℕ) × TakenBy m lent t
+  turn-is-taken : {d : TurnDone} → Outcome m lent was d → ((n : ℕ) → printed (d .answer) ≡ refusedBy n → ⊥) → (t : ℕ) × TakenBy m lent t
   turn-is-taken (refused h) f = absurd (f _ refl)
   turn-is-taken (taken t s o) f = (t, taken-by m lent t s)
 
@@ -66,20 +64,41 @@ module _ (m : Market) (lent : ℕ) (was : List ℕ) where
 
 -- ---- turn-downs
 
-module _ (m : Market) (was : List ℕ) (t : ℕ) where
-  down-comes : {d : TurnDone} → OrderOf m was t d → Comes (downBy m t) (λ n. d .answer ≡ turn-answer.TurnedDown t n) (AcceptedBy m t (d .answer))
-  down-comes (turned-down h) = by-number h refl (λ k x. ap (λ a. lineOf a .code) x) (λ a. omega (arith, ap kindOf (a .is)))
-  down-comes (rests n o) = by-none n (record { filled = _; disposition = _; fills = _; is = refl }) (λ k x. omega (arith, ap kindOf x))
-  down-comes (trades n o) = by-none n (record { filled = _; disposition = _; fills = _; is = refl }) (λ k x. omega (arith, ap kindOf x))
+-- single values of what a turn answers
+abbrev pub codeOf : Printed → ℕ
+codeOf p = valuesOf p .code
 
-  down-in-order : {d : TurnDone} → OrderOf m was t d → GivenInOrder (turnDownRules m t) (λ n. d .answer ≡ turn-answer.TurnedDown t n) (AcceptedBy m t (d .answer))
+abbrev pub tenantOf : Printed → ℕ
+tenantOf p = valuesOf p .tenant
+
+abbrev pub numberOf : Printed → ℕ
+numberOf p = valuesOf p .number
+
+abbrev filledOf : Printed → ℕ
+filledOf p = valuesOf p .filled
+
+abbrev pub disposedOf : Printed → ℕ
+disposedOf p = valuesOf p .disposition
+
+module _ (m : Market) (was : List ℕ) (t : ℕ) where
+  -- accepted with the next number
+  accepted-by : (filled disposition : ℕ) → disposition < 5 → AcceptedBy m t (acceptedAs t (m .session .next) filled disposition)
+  accepted-by filled disposition less =
+      record { filled = filled; disposition = disposition; order = record { values = refl; no-cancel = less } }
+
+  down-comes : {d : TurnDone} → OrderOf m was t d → Comes (downBy m t) (λ n. printed (d .answer) ≡ turnedDownBy t n) (AcceptedBy m t (printed (d .answer)))
+  down-comes (turned-down h) = by-number h refl (λ k x. ap codeOf x) (λ a. omega (arith, ap codeOf (a .order .values)))
+  down-comes (rests n o) = by-none n (accepted-by 0 1 (omega arith)) (λ k x. sym (ap codeOf x))
+  down-comes (trades n o) = by-none n (accepted-by _ _ (disposed-less m t)) (λ k x. sym (ap codeOf x))
+
+  down-in-order : {d : TurnDone} → OrderOf m was t d → GivenInOrder (turnDownRules m t) (λ n. printed (d .answer) ≡ turnedDownBy t n) (AcceptedBy m t (printed (d .answer)))
   unfolding turnDown
   down-in-order o =
       let cases = turnDowns (headEntry m t) (quotesIn m) (m .session .terms) (standingOf m t) in
       comes-in-order cases (turnDownRules m t) refl (reads-itself cases) (down-comes o)
 
 row-room-is : (m : Market) (lent t : ℕ) (was : List ℕ) → Sound m → TakenBy m lent t → isCancel (headEntry m t) ≡ false
-    → (turnOf m lent was .answer ≡ turn-answer.TurnedDown t 17)
+    → (turnPrinted m lent was ≡ turnedDownBy t 17)
     ↔ (NoneOf (take 7 (turnDownRules m t)) × (mightRest (judged m t) ≡ true) × (restingOf (m .book) t ≡ 24))
 unfolding noRoom
 row-room-is m lent t was sound k new =
@@ -109,10 +128,14 @@ module _ (b : Book) (t n : ℕ) where
   unfolding isOrder
   as-rests i r = simp (lt-ltb 0 (sizeAt b i) (r .rests), eq-eqb (ownerAt b i) t (r .tenant), eq-eqb (numberAt b i) n (r .numbered))
 
+  pub row-rests : rowOf b t n < b .places → RestsAs b t n (rowOf b t n)
+  unfolding orderRow
+  row-rests h = rests-as (firstTo is-it (b .places)) h (first-holds is-it (b .places) h)
+
   row-says : (rowOf b t n < b .places) ↔ ((i : ℕ) × RestsAs b t n i)
   unfolding orderRow
   row-says = (
-    λ h. (firstTo is-it (b .places), rests-as (firstTo is-it (b .places)) h (first-holds is-it (b .places) h)),
+    λ h. (rowOf b t n, row-rests h),
     λ (i, r). omega (arith, first-least is-it (b .places) i (r .row) (as-rests i r), r .row),
   )
 
@@ -120,71 +143,106 @@ module _ (m : Market) (was : List ℕ) (t : ℕ) where
   abbrev n : ℕ
   n = headEntry m t .number
 
-  cancel-no-such : {d : TurnDone} → CancelOf m was t d → (d .answer ≡ turn-answer.TurnedDown t 18) ↔ ((i : ℕ) → RestsAs (m .book) t n i → ⊥)
-  cancel-no-such (cancels h) = (λ x. absurd (omega (arith, ap kindOf x)), λ f. absurd (let (i, r) = row-says (m .book) t n .0 h in f i r))
+  cancel-no-such : {d : TurnDone} → CancelOf m was t d → (printed (d .answer) ≡ turnedDownBy t 18) ↔ ((i : ℕ) → RestsAs (m .book) t n i → ⊥)
+  cancel-no-such (cancels h) = (λ x. absurd (omega (arith, ap codeOf x)), λ f. absurd (let (i, r) = row-says (m .book) t n .0 h in f i r))
   cancel-no-such (no-such h) = (λ x i r. omega (arith, row-says (m .book) t n .1 (i, r)), λ f. refl)
 
-  cancel-found : {d : TurnDone} → CancelOf m was t d → (d .answer ≡ turn-answer.Cancelled t n) ↔ ((i : ℕ) × RestsAs (m .book) t n i)
+  cancel-found : {d : TurnDone} → CancelOf m was t d → (printed (d .answer) ≡ cancelledAs t n) ↔ ((i : ℕ) × RestsAs (m .book) t n i)
   cancel-found (cancels h) = (λ x. row-says (m .book) t n .0 h, λ r. refl)
-  cancel-found (no-such h) = (λ x. absurd (omega (arith, ap kindOf x)), λ r. absurd (omega (arith, row-says (m .book) t n .1 r)))
+  cancel-found (no-such h) = (λ x. absurd (omega (arith, ap codeOf x)), λ r. absurd (omega (arith, row-says (m .book) t n .1 r)))
 
 -- ---- accepted orders
 
--- what a turn d is, that once open accepts an order with such an answer
-pub record TradedAs (m : Market) (was : List ℕ) (t : ℕ) (d : TurnDone) (number filled disposition fills : ℕ) : Type 0 where
+-- what a turn d is, that before the opening accepts an order with such an answer
+pub record RestedAs (m : Market) (was : List ℕ) (t : ℕ) (d : TurnDone) (number filled disposition : ℕ) : Type 0 where
   pub new : isCancel (headEntry m t) ≡ false
+  pub not-turned-down : downBy m t ≡ 0
+  pub number-is : number ≡ m .session .next
+  pub filled-is : filled ≡ 0
+  pub disposition-is : disposition ≡ 1
+  pub fills-is : fillsIn (d .answer) ≡ 0
+  pub records-are : d .records ≡ was
+  pub next-is : d .market .session .next ≡ m .session .next + 1
+  pub book-is : d .market .book ≡ rested (m .book) (judged m t .side) (judged m t .price .0) (judged m t .size .0) t number
+
+-- and that once open does
+pub record TradedAs (m : Market) (was : List ℕ) (t : ℕ) (d : TurnDone) (number filled disposition : ℕ) : Type 0 where
+  pub new : isCancel (headEntry m t) ≡ false
+  pub not-turned-down : downBy m t ≡ 0
   pub number-is : number ≡ m .session .next
   pub filled-is : filled ≡ filledIn m t
   pub disposition-is : disposition ≡ dispositionOf (judged m t) (quotesIn m) (m .session .terms) (contracts (judged m t .size .0 - filled))
-  pub fills-is : fills ≡ fillsBy m t
+  pub fills-is : fillsIn (d .answer) ≡ fillsBy m t
   pub records-are : d .records ≡ tradeDone m t was .records
+  pub next-is : d .market .session .next ≡ m .session .next + 1
   pub book-is : d .market .book
       ≡ pick (eqb disposition 1) (rested (onceTraded m t) (judged m t .side) (judged m t .price .0) (judged m t .size .0 - filled) t number) (onceTraded m t)
 
-module _ (m : Market) (was : List ℕ) (t number : ℕ) (filled : Contracts) (disposition fills : ℕ) where
-  data AcceptedAs (d : TurnDone) : Type 0 where
-    simply : m .session .opened ≡ false → (filled .0 ≡ 0) × (disposition ≡ 1) × (fills ≡ 0) → AcceptedAs d
-    by-trade : m .session .opened ≡ true → TradedAs m was t d number (filled .0) disposition fills → AcceptedAs d
+module _ (m : Market) (was : List ℕ) (t number filled disposition : ℕ) where
+  data AcceptedHow (d : TurnDone) : Type 0 where
+    simply : m .session .opened ≡ false → RestedAs m was t d number filled disposition → AcceptedHow d
+    by-trade : m .session .opened ≡ true → TradedAs m was t d number filled disposition → AcceptedHow d
 
-  accepted-as : {d : TurnDone} → OutcomeOf m was t d → d .answer ≡ turn-answer.Accepted t number filled disposition fills → AcceptedAs d
-  accepted-as (of-cancel c (cancels h)) x = absurd (omega (arith, ap kindOf x))
-  accepted-as (of-cancel c (no-such h)) x = absurd (omega (arith, ap kindOf x))
-  accepted-as (of-order c (turned-down h)) x = absurd (omega (arith, ap kindOf x))
-  accepted-as (of-order c (rests n o)) x = simply o (sym (ap (λ a. lineOf a .filled) x), sym (ap (λ a. lineOf a .disposition) x), sym (ap fillsIn x))
-  accepted-as (of-order c (trades n o)) x =
-      let number-is = sym (ap (λ a. lineOf a .number) x) in
-      let filled-is = sym (ap (λ a. lineOf a .filled) x) in
-      let disposition-is = sym (ap (λ a. lineOf a .disposition) x) in
+  accepted-how : {d : TurnDone} → OutcomeOf m was t d → OrderAccepted (printed (d .answer)) t number filled disposition → AcceptedHow d
+  accepted-how (of-cancel c (cancels h)) x = absurd (omega (arith, ap disposedOf (x .values), x .no-cancel))
+  accepted-how (of-cancel c (no-such h)) x = absurd (omega (arith, ap codeOf (x .values)))
+  accepted-how (of-order c (turned-down h)) x = absurd (omega (arith, ap codeOf (x .values)))
+  accepted-how (of-order c (rests n o)) x =
+      let number-is = sym (ap numberOf (x .values)) in
+      simply o (record {
+        new = c;
+        not-turned-down = n;
+        number-is = number-is;
+        filled-is = sym (ap filledOf (x .values));
+        disposition-is = sym (ap disposedOf (x .values));
+        fills-is = refl;
+        records-are = refl;
+        next-is = refl;
+        book-is = rw number-is refl;
+      })
+  accepted-how (of-order c (trades n o)) x =
+      let number-is = sym (ap numberOf (x .values)) in
+      let filled-is = sym (ap filledOf (x .values)) in
+      let disposition-is = sym (ap disposedOf (x .values)) in
       by-trade o (record {
         new = c;
+        not-turned-down = n;
         number-is = number-is;
         filled-is = filled-is;
         disposition-is = rw filled-is disposition-is;
-        fills-is = sym (ap fillsIn x);
+        fills-is = refl;
         records-are = refl;
+        next-is = refl;
         book-is = rw (number-is, disposition-is, filled-is) refl;
       })
 
-module _ (m : Market) (lent : ℕ) (was : List ℕ) (t number : ℕ) (filled : Contracts) (disposition fills : ℕ)
-    (is : turnOf m lent was .answer ≡ turn-answer.Accepted t number filled disposition fills) where
+module _ (m : Market) (lent : ℕ) (was : List ℕ) (t number filled disposition : ℕ)
+    (is : OrderAccepted (turnPrinted m lent was) t number filled disposition) where
   -- an accepted order's turn is its tenant's
   pub accepted-served : ServedAs m lent t
-  accepted-served = named m lent was t (ap (λ a. laneIn (turned a)) is)
+  accepted-served = named m lent was t (lane-told (turnOf m lent was .answer) ∙ ap laneTold (is .values))
 
-  accepted : AcceptedAs m was t number filled disposition fills (turnOf m lent was)
-  accepted = accepted-as m was t number filled disposition fills (served-outcome m lent was t accepted-served) is
+  accepted : AcceptedHow m was t number filled disposition (turnOf m lent was)
+  accepted = accepted-how m was t number filled disposition (served-outcome m lent was t accepted-served) is
 
-  pub accepted-traded : m .session .opened ≡ true → TradedAs m was t (turnOf m lent was) number (filled .0) disposition fills
+  pub accepted-traded : m .session .opened ≡ true → TradedAs m was t (turnOf m lent was) number filled disposition
   accepted-traded opened = elim accepted [ simply shut _ ↦ absurd (holds-not-fails opened shut) | by-trade _ d ↦ d ]
 
-  rested-simply : m .session .opened ≡ false → (filled .0 ≡ 0) × (disposition ≡ 1) × (fills ≡ 0)
-  rested-simply shut = elim accepted [ simply _ r ↦ r | by-trade opened _ ↦ absurd (holds-not-fails opened shut) ]
+  pub accepted-rested : m .session .opened ≡ false → RestedAs m was t (turnOf m lent was) number filled disposition
+  accepted-rested shut = elim accepted [ simply _ d ↦ d | by-trade opened _ ↦ absurd (holds-not-fails opened shut) ]
+
+  -- either way it uses up the next number
+  pub accepted-numbered : (number ≡ m .session .next) × (turnOf m lent was .market .session .next ≡ m .session .next + 1)
+  accepted-numbered = elim accepted [ simply _ d ↦ (d .number-is, d .next-is) | by-trade _ d ↦ (d .number-is, d .next-is) ]
+
+  rested-simply : m .session .opened ≡ false → (filled ≡ 0) × (disposition ≡ 1) × (turnFills m lent was ≡ 0)
+  rested-simply shut = let d = accepted-rested shut in (d .filled-is, d .disposition-is, d .fills-is)
 
   disposed-in-order : m .session .opened ≡ true
-      → GivenInOrder (dispositionRules m t (judged m t .size .0 - filled .0)) (λ n. disposition ≡ n) (disposition ≡ 1)
+      → GivenInOrder (dispositionRules m t (judged m t .size .0 - filled)) (λ n. disposition ≡ n) (disposition ≡ 1)
   unfolding dispositionOf
   disposed-in-order opened =
-      let left = judged m t .size .0 - filled .0 in
+      let left = judged m t .size .0 - filled in
       let cases = dispositions (judged m t) (quotesIn m) (m .session .terms) (contracts left) in
       number-in-order 1 cases (dispositionRules m t left) refl (reads-itself cases) (accepted-traded opened .disposition-is)
 
@@ -197,6 +255,6 @@ turned-down-in-order = record {
   row-room = row-room-is;
   cancel-refused = λ m lent t was k c. cancel-no-such m was t (cancel-comes m lent was t k c);
   cancel-accepted = λ m lent t was k c. cancel-found m was t (cancel-comes m lent was t k c);
-  disposed = λ m lent was t number filled disposition fills opened is. disposed-in-order m lent was t number filled disposition fills is opened;
-  simply-rests = λ m lent was t number filled disposition fills shut is. rested-simply m lent was t number filled disposition fills is shut;
+  disposed = λ m lent was t number filled disposition opened is. disposed-in-order m lent was t number filled disposition is opened;
+  simply-rests = λ m lent was t number filled disposition shut is. rested-simply m lent was t number filled disposition is shut;
 }

@@ -132,15 +132,15 @@ pub number-in-order : (d : ℕ) (cs : List Case) (rs : List Rule) → apart d cs
     → GivenInOrder rs (λ n. code ≡ n) (code ≡ d)
 number-in-order d cs rs a r e = in-order d cs rs _ _ a r (λ n _. (λ x. sym e ∙ x, λ y. e ∙ y)) (λ x. sym e ∙ x, λ y. e ∙ y) (λ x. x)
 
--- what an answer comes to by its number n, which is 0 where no test holds: no number is given and it is otherwise, or n
--- is given and no other
+-- what an answer comes to by its number n, which is 0 where no test holds: no number but 0 is given and it is
+-- otherwise, or n is given and no other
 pub data Comes (n : ℕ) (gives : ℕ → Type 0) (otherwise : Type 0) : Type 0 where
-  by-none : n ≡ 0 → otherwise → ((k : ℕ) → gives k → ⊥) → Comes n gives otherwise
+  by-none : n ≡ 0 → otherwise → ((k : ℕ) → gives k → k ≡ 0) → Comes n gives otherwise
   by-number : 0 < n → gives n → ((k : ℕ) → gives k → n ≡ k) → (otherwise → ⊥) → Comes n gives otherwise
 
 pub comes-in-order : (cs : List Case) (rs : List Rule) → apart 0 cs ≡ true → Reads cs rs → {gives : ℕ → Type 0} {otherwise : Type 0} → Comes (firstOf 0 cs) gives otherwise
     → GivenInOrder rs gives otherwise
 comes-in-order cs rs a r (by-none e x never) =
-    in-order 0 cs rs _ _ a r (λ k z. (λ y. absurd (never k y), λ f. absurd (z (sym f ∙ e)))) (λ _. e, λ _. x) (λ y. absurd (never 0 y))
+    in-order 0 cs rs _ _ a r (λ k z. (λ y. absurd (z (never k y)), λ f. absurd (z (sym f ∙ e)))) (λ _. e, λ _. x) (λ _. x)
 comes-in-order cs rs a r {gives} (by-number h y one not) =
     in-order 0 cs rs _ _ a r (λ k z. (one k, λ f. subst gives f y)) (λ x. absurd (not x), λ e. absurd (omega arith)) (λ w. absurd (omega (arith, one 0 w)))

@@ -7,6 +7,8 @@ pub mod RunLaws
 pub mod InOrder
 pub mod InOrderLaws
 pub mod Demand2
+pub mod Demand2Rows
+pub mod Demand2Whole
 pub mod Outcomes
 pub mod TurnCases
 pub mod OpenCases
@@ -26,6 +28,7 @@ pub mod Demand2Refusals
 pub mod Demand2Stores
 pub mod Demand2Turn
 pub mod Demand2Fills
+pub mod Demand2RowsProof
 pub mod OpenBook
 pub mod OpenBookProof
 pub mod Demand2Opening

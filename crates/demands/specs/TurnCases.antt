@@ -51,12 +51,20 @@ kindOf (answer.Cancelled t n) = 2
 kindOf (answer.Accepted t n f d k) = 3
 
 -- its values in the paper's numbers, a refusal's number as their code
-abbrev valuesOf : Printed → Line
+abbrev pub valuesOf : Printed → Line
 valuesOf (printedRefused n) = record { tenant = 0; code = n; number = 0; filled = 0; disposition = 0 }
 valuesOf (printedTurn l) = l
 
-abbrev pub lineOf : TurnAnswer → Line
-lineOf a = valuesOf (printed a)
+-- and whose turn they say was taken
+abbrev pub laneTold : Printed → Served
+laneTold (printedRefused n) = Nobody
+laneTold (printedTurn l) = Lane (l .tenant)
+
+pub lane-told : (a : TurnAnswer) → laneIn (turned a) ≡ laneTold (printed a)
+lane-told (answer.Refused n) = refl
+lane-told (answer.TurnedDown t n) = refl
+lane-told (answer.Cancelled t n) = refl
+lane-told (answer.Accepted t n f d k) = refl
 
 -- ---- what is left
 
@@ -92,6 +100,13 @@ module _ (m : Market) (t : ℕ) where
 
   abbrev pub disposedIn : ℕ
   disposedIn = dispositionOf (judged m t) (quotesIn m) (m .session .terms) (contracts (judged m t .size .0 - filledIn))
+
+  -- which is never that of a cancel
+  pub disposed-less : disposedIn < 5
+  unfolding dispositionOf
+  disposed-less =
+      let less : ℕ → Type 0 = λ n. n < 5 in
+      picked-of-both less _ 0 _ (omega arith) (picked-of-both less _ 2 _ (omega arith) (picked-of-both less _ 3 _ (omega arith) (picked-of-both less _ 4 1 (omega arith) (omega arith))))
 
   abbrev pub fillsBy : ℕ
   fillsBy = tradeRecords (m .book) (opposite (judged m t)) (boundIn m t) (judged m t .size .0) (m .session .terms .allocation)

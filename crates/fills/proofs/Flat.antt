@@ -167,15 +167,15 @@ module _ {M : Type 1} {𝓤 : URA M} {H : Heap 𝓤} {A : Atoms 𝓤} {K : Type 
   flat-whole t z μ l rs = step (λ s. lft-end t z $ lent-back t z $
       use1 W (given (Is AR rs (mach-rs rs ∷ [])) (‵ (cell-rs l (mach-rs rs)))) (array-found u32 (uint-vals w32) (uint-tells w32) 864 𝓤 H A W (uint-makes 𝓤 H A W w32) rs l 0) $ learn t (λ _. s))
 
-  -- a call that answers an R and promises two facts is back: T are the tokens, and Ls says the last values
-  pub told-two : K → Soaks G → {Q : SProp 𝓤} (R : RattleType) (v : Val) {L : Type 0} (T : Fml) (Ls : L → Fml) (φ ψ : R .Denot → L → Type 0)
-      → ent 𝓤 Q (mean 𝓤 H A (later (some (λ (x : R .Denot). (‵ T ⊛ ‵ (R .own x (v ∷ []))) ⊛ some (λ (ws : L). ‵ (Ls ws) ⊛ (raw (fact 𝓤 (φ x ws)) ⊛ raw (fact 𝓤 (ψ x ws))))))))
-      → ((x : R .Denot) (ws : L) → φ x ws → ψ x ws → Is R x (v ∷ []) → Seq K W (‵ T ∷ ‵ (Ls ws) ∷ Γ) G)
+  -- a call that answers an R and promises three facts is back: T are the tokens, and Ls says the last values
+  pub told-three : K → Soaks G → {Q : SProp 𝓤} (R : RattleType) (v : Val) {L : Type 0} (T : Fml) (Ls : L → Fml) (φ ψ χ : R .Denot → L → Type 0)
+      → ent 𝓤 Q (mean 𝓤 H A (later (some (λ (x : R .Denot). (‵ T ⊛ ‵ (R .own x (v ∷ []))) ⊛ some (λ (ws : L). ‵ (Ls ws) ⊛ (raw (fact 𝓤 (φ x ws)) ⊛ (raw (fact 𝓤 (ψ x ws)) ⊛ raw (fact 𝓤 (χ x ws)))))))))
+      → ((x : R .Denot) (ws : L) → φ x ws → ψ x ws → χ x ws → Is R x (v ∷ []) → Seq K W (‵ T ∷ ‵ (Ls ws) ∷ Γ) G)
       → Seq K W (raw Q ∷ Γ) G
-  told-two t z R v {L} T Ls φ ψ is k =
-      use1 W (later (some (λ (x : R .Denot). (‵ T ⊛ ‵ (R .own x (v ∷ []))) ⊛ some (λ (ws : L). ‵ (Ls ws) ⊛ (raw (fact 𝓤 (φ x ws)) ⊛ raw (fact 𝓤 (ψ x ws))))))) is $ await t z $ pick t (λ x.
-      split t $ move t (1 ∷ []) $ pick t (λ ws. split t $ move t (1 ∷ []) $ split t $ heard t (φ x ws) (λ f. heard t (ψ x ws) (λ g.
-      move t (1 ∷ []) $ split t $ move t (1 ∷ []) $ peeks t R (Is R) (shows 𝓤 H A R) x (v ∷ []) (λ r. drop t $ k x ws f g r)))))
+  told-three t z R v {L} T Ls φ ψ χ is k =
+      use1 W (later (some (λ (x : R .Denot). (‵ T ⊛ ‵ (R .own x (v ∷ []))) ⊛ some (λ (ws : L). ‵ (Ls ws) ⊛ (raw (fact 𝓤 (φ x ws)) ⊛ (raw (fact 𝓤 (ψ x ws)) ⊛ raw (fact 𝓤 (χ x ws)))))))) is $ await t z $ pick t (λ x.
+      split t $ move t (1 ∷ []) $ pick t (λ ws. split t $ move t (1 ∷ []) $ split t $ heard t (φ x ws) (λ f. split t $ heard t (ψ x ws) (λ g. heard t (χ x ws) (λ h.
+      move t (1 ∷ []) $ split t $ move t (1 ∷ []) $ peeks t R (Is R) (shows 𝓤 H A R) x (v ∷ []) (λ r. drop t $ k x ws f g h r))))))
 
   -- a call that counts is back: the count is n
   pub told-count : K → Soaks G → {Q : SProp 𝓤} (n : ℕ) (v : Val) (E : ℕ → SProp 𝓤) → ((k : ℕ) → ent 𝓤 (E k) (fact 𝓤 (k ≡ n)))

@@ -5,8 +5,6 @@ use mathlib.Core.List.{List}
 use Prim.Native.Nat.{ℕ}
 use Rattle.units.specs.declared.Cents.{Cents}
 use Rattle.units.specs.Lent.{Column, Lent}
-use Rattle.units.specs.Tests.{isNot}
-use Rattle.units.specs.Cases.{Case, _when_}
 use Rattle.book.specs.Book.{Book}
 use Rattle.book.specs.Lent.{given, before, after}
 use Rattle.entry.specs.declared.Away.{Away}
@@ -86,7 +84,3 @@ floorOn s b = floorOf (seriesOf s) (s .tallies) (s .next) b
 -- what a call answered, beside the book and the entries that it left
 abbrev pub answeredOf : Answered → Book → List ℕ → Called
 answeredOf r book entries = record { market = marketOf (r .session) book entries; code = r .code }
-
--- 21 no accepted settings yet: the first refusal of every call but settings
-abbrev pub unset : Session → Case
-unset s = 21 when isNot (s .accepted)

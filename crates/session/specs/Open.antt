@@ -28,15 +28,24 @@ OpenDone = Done OpenAnswer
 abbrev pub openDone : Opened → Book → List ℕ → List ℕ → OpenDone
 openDone r book entries records = record { market = marketOf (r .session) book entries; answer = r .answer; records = records }
 
--- the paper's values: code, price, volume; a refused open has 0 for both
+-- the paper's values of an open
 pub record Line : Type 0 where
   pub code : ℕ
   pub price : ℕ
   pub volume : ℕ
 
+-- a refused open has 0 for price and volume
+abbrev pub refusedBy : ℕ → Line
+refusedBy code = record { code = code; price = 0; volume = 0 }
+
+-- an opening has code 0
+abbrev pub openedAt : ℕ → ℕ → Line
+openedAt price volume = record { code = 0; price = price; volume = volume }
+
+-- an open's answer in the paper's numbers
 abbrev pub printed : OpenAnswer → Line
-printed (answer.Refused code) = record { code = code; price = 0; volume = 0 }
-printed (answer.AtPrice price volume fills) = record { code = 0; price = price .0; volume = volume .0 }
+printed (answer.Refused code) = refusedBy code
+printed (answer.AtPrice price volume fills) = openedAt (price .0) (volume .0)
 
 -- how many fill records an opening wrote
 abbrev pub fillsIn : OpenAnswer → ℕ

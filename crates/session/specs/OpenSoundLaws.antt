@@ -1,5 +1,5 @@
 -- An open keeps a market sound.
-use mathlib.Core.Path.{_≡_, refl, sym, subst}
+use mathlib.Core.Path.{_≡_, refl, sym, ap, subst}
 use mathlib.Core.Bool.{Bool, true, false}
 use mathlib.Core.List.{List}
 use Prim.Native.Nat.{ℕ}
@@ -19,7 +19,7 @@ use Rattle.session.specs.Market.{Market, marketOf}
 use Rattle.dealing.specs.OpenLaws.{opened-sums}
 use Rattle.dealing.specs.Sound.{SoundTallies}
 use Rattle.session.specs.Sound.{Held, Sound}
-use Rattle.session.specs.Open.{OpenDone, openDone, openRefusal, choiceOf, openedTo, openQuiet, openAt, openOf}
+use Rattle.session.specs.Open.{OpenDone, openDone, printed, openRefusal, choiceOf, openedTo, openQuiet, openAt, openOf}
 
 -- an open market, with a sound and uncrossed book and tallies within their bounds
 module _ (m : Market) (held : Held m) where
@@ -62,13 +62,23 @@ open-sound m lent was sound = go (ltb 0 (openRefusal m lent)) (crosses (m .book)
     go false true h = λ set. at-held m (sound set) (chosen (choiceOf (m .session))) was
     go false false h = λ set. quiet-held m (sound set) h was
 
--- where an open does what its definition says, a sound market stays sound
+-- where an open does what its definition says, a sound market stays sound, and the answer has its values in the paper's
+-- numbers
 module _ (s : Session) (b after : Book) (lent : ℕ) (was records : List ℕ) (r : Opened) where
   abbrev Exact : Type 0
   Exact = (entries : List ℕ) → openDone r after entries records ≡ openOf (marketOf s b entries) lent was
 
-  pub exact-sound : Exact → Exact × ((entries : List ℕ) → Sound (marketOf s b entries) → Sound (marketOf (r .session) after entries))
-  exact-sound exact = (
+  abbrev StaysSound : Type 0
+  StaysSound = (entries : List ℕ) → Sound (marketOf s b entries) → Sound (marketOf (r .session) after entries)
+
+  abbrev Values : Type 0
+  Values = (entries : List ℕ) → printed (r .answer) ≡ printed (openOf (marketOf s b entries) lent was .answer)
+
+  pub as-defined : Exact → Exact × (StaysSound × Values)
+  as-defined exact = (
     exact,
-    λ entries sound. subst (λ (d : OpenDone). Sound (d .market)) (sym (exact entries)) (open-sound (marketOf s b entries) lent was sound),
+    (
+      λ entries sound. subst (λ (d : OpenDone). Sound (d .market)) (sym (exact entries)) (open-sound (marketOf s b entries) lent was sound),
+      λ entries. ap (λ (d : OpenDone). printed (d .answer)) (exact entries),
+    ),
   )

@@ -19,8 +19,9 @@ use Rattle.entry.specs.declared.Away.{Away}
 use Rattle.entry.specs.Settings.{inRange, termsOf}
 use Rattle.lanes.specs.Ring.{allEntries, empty}
 use Rattle.tally.specs.Tallies.{noTallies}
+use Rattle.dealing.specs.Open.{unset}
 use Rattle.session.specs.declared.Session.{Session}
-use Rattle.session.specs.Market.{Market, Called, marketOf, withAway, unset}
+use Rattle.session.specs.Market.{Market, Called, marketOf, withAway}
 
 abbrev pub noQuote : Away
 noQuote = record { bid = cents 0; offer = cents 0 }
@@ -76,7 +77,7 @@ unfoldable pub tooHigh : Cents → Cents → Bool
 tooHigh bid offer = ltb highest (bid .0) or ltb highest (offer .0)
 
 abbrev pub awayCases : Session → Cents → Cents → List Case
-awayCases s bid offer = unset s ∷ (8 when tooHigh bid offer) ∷ []
+awayCases s bid offer = unset (s .accepted) ∷ (8 when tooHigh bid offer) ∷ []
 
 unfoldable pub awayRefusal : Session → Cents → Cents → ℕ
 awayRefusal s bid offer = firstOf 0 (awayCases s bid offer)

@@ -7,13 +7,14 @@ use Rattle.units.specs.Tests.{isNot, pick}
 use Rattle.units.specs.Cases.{Case, _when_, firstOf}
 use Rattle.lanes.specs.Ring.{depth, lenOf, putAll, joined}
 use Rattle.lanes.specs.Bulk.{wellCounted, someMalformed}
+use Rattle.dealing.specs.Open.{unset}
 use Rattle.session.specs.declared.Session.{Session}
-use Rattle.session.specs.Market.{Market, Called, marketOf, withLanes, unset}
+use Rattle.session.specs.Market.{Market, Called, marketOf, withLanes}
 
 -- the numbers in the order of checking: 1 tenant, 3 count, 2 any malformed entry, 4 waiting plus count above 64
 abbrev pub submitCases : Session → ℕ → ℕ → List ℕ → List Case
 submitCases s tenant count ns =
-    unset s
+    unset (s .accepted)
     ∷ (1 when leb tenants tenant)
     ∷ (3 when isNot (wellCounted count ns))
     ∷ (2 when someMalformed count ns)

@@ -23,11 +23,12 @@ use Rattle.dealing.specs.declared.Came.{Came}
 use Rattle.dealing.specs.declared.Came.the-variants as came
 use Rattle.dealing.specs.Floor.{Made, nextAfter}
 use Rattle.dealing.specs.Deal.{quotesOn, standingOn, dealt}
+use Rattle.dealing.specs.Open.{unset}
 use Rattle.session.specs.declared.Session.{Session}
 use Rattle.session.specs.declared.Turned.{Turned}
 use Rattle.session.specs.declared.TurnAnswer.{TurnAnswer}
 use Rattle.session.specs.declared.TurnAnswer.the-variants as answer
-use Rattle.session.specs.Market.{Market, Done, marketOf, withLanes, withNext, withTallies, floorOn, unset}
+use Rattle.session.specs.Market.{Market, Done, marketOf, withLanes, withNext, withTallies, floorOn}
 
 abbrev pub TurnDone : Type 0
 TurnDone = Done TurnAnswer
@@ -41,8 +42,7 @@ abbrev pub turnLeft : Turned → Lent → Lent → Lent → Lent → Lent → Le
 turnLeft r sides prices sizes owners numbers entries records =
     turnDone r (after sides prices sizes owners numbers) (entries .exit .now) (records .exit .now)
 
--- the paper's values of a taken turn: tenant, code, number, filled, disposition; an entry turned down gives 0 for
--- number, filled and disposition; an accepted cancel gives disposition 5, the cancelled order's number and filled 0
+-- the paper's values of a taken turn
 pub record Line : Type 0 where
   pub tenant : ℕ
   pub code : ℕ
@@ -55,12 +55,24 @@ pub data Printed : Type 0 where
   refused : ℕ → Printed
   turn : Line → Printed
 
+-- an entry turned down gives 0 for number, filled and disposition
+abbrev pub turnedDownBy : ℕ → ℕ → Printed
+turnedDownBy tenant code = turn (record { tenant = tenant; code = code; number = 0; filled = 0; disposition = 0 })
+
+-- an accepted cancel gives disposition 5, the cancelled order's number and filled 0
+abbrev pub cancelledAs : ℕ → ℕ → Printed
+cancelledAs tenant number = turn (record { tenant = tenant; code = 0; number = number; filled = 0; disposition = 5 })
+
+-- an accepted order gives its number, what is filled and its disposition
+abbrev pub acceptedAs : ℕ → ℕ → ℕ → ℕ → Printed
+acceptedAs tenant number filled disposition =
+    turn (record { tenant = tenant; code = 0; number = number; filled = filled; disposition = disposition })
+
 abbrev pub printed : TurnAnswer → Printed
 printed (answer.Refused code) = refused code
-printed (answer.TurnedDown tenant code) = turn (record { tenant = tenant; code = code; number = 0; filled = 0; disposition = 0 })
-printed (answer.Cancelled tenant number) = turn (record { tenant = tenant; code = 0; number = number; filled = 0; disposition = 5 })
-printed (answer.Accepted tenant number filled disposition fills) =
-    turn (record { tenant = tenant; code = 0; number = number; filled = filled .0; disposition = disposition })
+printed (answer.TurnedDown tenant code) = turnedDownBy tenant code
+printed (answer.Cancelled tenant number) = cancelledAs tenant number
+printed (answer.Accepted tenant number filled disposition fills) = acceptedAs tenant number (filled .0) disposition
 
 -- how many fill records a turn wrote
 abbrev pub fillsIn : TurnAnswer → ℕ
@@ -78,7 +90,7 @@ nobody Nobody = true
 -- 1,000,000,000,000,000,000 turns taken in all
 abbrev pub turnCases : Session → ℕ → List Case
 turnCases s lent =
-    unset s
+    unset (s .accepted)
     ∷ (5 when nobody (served (s .lanes)))
     ∷ (6 when ltb lent rows)
     ∷ (35 when leb mostTurns (turnsInAll (s .tallies)))

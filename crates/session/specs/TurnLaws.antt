@@ -30,7 +30,7 @@ use Rattle.session.specs.declared.TurnAnswer.{TurnAnswer}
 use Rattle.session.specs.declared.TurnAnswer.the-variants as answer
 use Rattle.session.specs.Market.{Market, marketOf, withLanes, withNext, withTallies, seriesOf}
 use Rattle.session.specs.Sound.{Sound}
-use Rattle.session.specs.Turn.{TurnDone, turnDone, turnRefusal, afterTaking, headEntry, answerOf, turnMade, turnedBy, turnOf}
+use Rattle.session.specs.Turn.{TurnDone, turnDone, printed, turnRefusal, afterTaking, headEntry, answerOf, turnMade, turnedBy, turnOf}
 use Rattle.session.specs.TakingLaws.{Takes, takes}
 use Rattle.session.specs.TakingLaws as taking
 use Rattle.session.specs.TurnSoundLaws.{turn-sound}
@@ -124,7 +124,9 @@ module _ (m : Market) (lent : ℕ) (was : List ℕ) (code : ℕ) (is : code ≡ 
             length was ≡ fields * rows → CanDeal (floorOf series (after .tallies) (after .next) (m .book)) t e was
         can-deal e after series h g f long = rw (f, h, g) (taking.can-deal m (sound (held .set)) t serves (held .turns) was long)
 
--- what is left is as sound as the turn's definition leaves it
-pub sound-after :
-    (m : Market) (lent : ℕ) (was : List ℕ) (done : TurnDone) → Sound m → done ≡ turnOf m lent was → Sound (done .market)
-sound-after m lent was done sound e = rw e (turn-sound m lent was sound)
+-- where a turn does what its definition says, a sound market stays sound, and the answer has its values in the paper's
+-- numbers
+pub as-defined :
+    (m : Market) (lent : ℕ) (was : List ℕ) (done : TurnDone) → Sound m → done ≡ turnOf m lent was →
+    (done ≡ turnOf m lent was) × (Sound (done .market) × (printed (done .answer) ≡ printed (turnOf m lent was .answer)))
+as-defined m lent was done sound e = (e, (rw e (turn-sound m lent was sound), ap (λ (d : TurnDone). printed (d .answer)) e))

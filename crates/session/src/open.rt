@@ -20,7 +20,7 @@ ghost use Rattle.book.specs.Records.{fields};
 ghost use Rattle.book.specs.Lent.{given, before, after};
 ghost use Rattle.session.specs.Market.{marketOf};
 ghost use Rattle.session.specs.Sound.{BookSound, Sound};
-ghost use Rattle.session.specs.Open.{openDone, openOn, openOf};
+ghost use Rattle.session.specs.Open.{openDone, printed, openOn, openOf};
 
 // The session once open.
 fn open_on(s: Session, tallies: Tallies) -> Session
@@ -49,6 +49,8 @@ pub fn open_core(
         ≡ openOf (marketOf s (before sides prices sizes owners numbers) entries) lent (now (records .entry))) ⌝ }
     ensures sound { λ r. ⌜ ((entries : List ℕ) → Sound (marketOf s (before sides prices sizes owners numbers) entries)
         → Sound (marketOf (r .session) (after sides prices sizes owners numbers) entries)) ⌝ }
+    ensures values { λ r. ⌜ ((entries : List ℕ) → printed (r .answer)
+        ≡ printed (openOf (marketOf s (before sides prices sizes owners numbers) entries) lent (now (records .entry)) .answer)) ⌝ }
 {
     let accepted = s.accepted;
     let series = series_of(s);

@@ -26,7 +26,7 @@ ghost use Rattle.tally.specs.Tallies.{Countable};
 ghost use Rattle.dealing.specs.Floor.{nextAfter};
 ghost use Rattle.session.specs.Market.{marketLent, marketFound, marketLeft};
 ghost use Rattle.session.specs.Sound.{TurnsHeld, Sound};
-ghost use Rattle.session.specs.Turn.{turnRefusal, afterTaking, answerOf, turnedBy, turnLeft, turnOf};
+ghost use Rattle.session.specs.Turn.{printed, turnRefusal, afterTaking, answerOf, turnedBy, turnLeft, turnOf};
 
 // From this many turns in all on, no turn is taken.
 const MOST_TURNS: u64 = 1000000000000000000;
@@ -132,6 +132,8 @@ pub fn turn_core(
     ensures exact { λ r. ⌜ turnLeft r sides prices sizes owners numbers entries records
         ≡ turnOf (marketFound s sides prices sizes owners numbers entries) lent (now (records .entry)) ⌝ }
     ensures sound { λ r. ⌜ Sound (marketLeft (r .session) sides prices sizes owners numbers entries) ⌝ }
+    ensures values { λ r. ⌜ printed (r .answer)
+        ≡ printed (turnOf (marketFound s sides prices sizes owners numbers entries) lent (now (records .entry)) .answer) ⌝ }
 {
     let code = refusal(s, lent);
     if 0 < code {

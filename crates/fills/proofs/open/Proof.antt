@@ -49,7 +49,7 @@ use Rattle.session.specs.declared.Session.{Session}
 use Rattle.session.specs.declared.Opened.{Opened}
 use Rattle.session.specs.Market.{marketOf}
 use Rattle.session.specs.Sound.{Sound, BookSound}
-use Rattle.session.specs.Open.{openOf, fillsIn, openDone}
+use Rattle.session.specs.Open.{openOf, printed, fillsIn, openDone}
 use Rattle.fills.specs.declared.Fill.{Fill}
 use Rattle.fills.specs.Fills.{stored, Fits}
 use Rattle.fills.specs.Calls.{openStored, openWith}
@@ -58,7 +58,7 @@ use Rattle.session.proofs.Session as S
 use Rattle.session.proofs.Session.Laws as S′
 use Rattle.session.proofs.Opened as T
 use Rattle.session.proofs.Opened.Laws as T′
-use Rattle.fills.proofs.Flat.{RS, mach-of, A-216, L-216, ptr-of, RF, AR, zeros, typed-0, typed-of, xr, slice-of, StoreAll, lends-flat, flat-back, shares-flat, flat-whole, told-two, told-count, stores}
+use Rattle.fills.proofs.Flat.{RS, mach-of, A-216, L-216, ptr-of, RF, AR, zeros, typed-0, typed-of, xr, slice-of, StoreAll, lends-flat, flat-back, shares-flat, flat-whole, told-three, told-count, stores}
 use Rattle.fills.proofs.Two.{says-two}
 use Rattle.session.proofs.open.open_core as open-core
 use Rattle.session.proofs.open.open_core.Symbol as open-core-def
@@ -129,6 +129,9 @@ module _ {M : Type 1} (𝓤 : URA M) (H : Heap 𝓤) (A : Atoms 𝓤) (W : Given
 
   abbrev StaysSound : Opened → Each → Type 0
   StaysSound t w = (entries : List ℕ) → Sound (marketOf h before entries) → Sound (marketOf (t .session) (after w) entries)
+
+  abbrev Values : Opened → Type 0
+  Values t = (entries : List ℕ) → printed (t .answer) ≡ printed (openOf (marketOf h before entries) (length ys) zeros .answer)
 
   abbrev Told : Opened → Each → List Fill → Type 0
   Told t w zs = (entries : List ℕ) → openStored t (after w) entries zs ≡ openWith (marketOf h before entries) ys
@@ -232,7 +235,7 @@ module _ {M : Type 1} (𝓤 : URA M) (H : Heap 𝓤) (A : Atoms 𝓤) (W : Given
         move ! (38 ∷ 2 ∷ 0 ∷ []) $ use3 W (raw (Core 𝓤 H A at-mem run .pre (to-core ν l₈ δ))) (goes-core ν l₈ δ) $
         -- [the callee's `pre`; the lender's part; the locals; the row's token; what the row owns]
         calls-at ! fm (Core 𝓤 H A at-mem run) known-core (to-core ν l₈ δ) (and-then ! (load ! (from ! (stop !)) (look ! 33 refl)) (and-then ! (load ! (from ! (stop !)) (look ! 31 refl)) (and-then ! (load ! (from ! (stop !)) (look ! 29 refl)) (and-then ! (load ! (from ! (stop !)) (look ! 14 refl)) (and-then ! (load ! (from ! (stop !)) (look ! 25 refl)) (and-then ! (load ! (from ! (stop !)) (look ! 23 refl)) (and-then ! (load ! (from ! (stop !)) (look ! 12 refl)) (and-then ! (load ! (from ! (stop !)) (look ! 10 refl)) (no-more !))))))))) (λ v.
-        told-two ! tt RT v (Tokens (ν ∷ []) fullShare) (λ (ws : Lasts-core). lasts open-core.ended (κ₀, (κ₁, (κ₂, (κ₃, (κ₄, (ν ∷ [], tt)))))) (arg-core l₈ δ) ws) (λ t ws. Exact t (each ws) (last ws)) (λ t ws. StaysSound t (each ws)) (id⊢ 𝓤 _) (λ t ws ec es is-t.
+        told-three ! tt RT v (Tokens (ν ∷ []) fullShare) (λ (ws : Lasts-core). lasts open-core.ended (κ₀, (κ₁, (κ₂, (κ₃, (κ₄, (ν ∷ [], tt)))))) (arg-core l₈ δ) ws) (λ t ws. Exact t (each ws) (last ws)) (λ t ws. StaysSound t (each ws)) (λ t _. Values t) (id⊢ 𝓤 _) (λ t ws ec es _ is-t.
         use2 W (‵ (Left (each ws)) ⊛ ‵ (flft (ν ∷ []) fullShare) ⊛ ‵ (fres δ (AR .coded .code (last ws)))) (back-core ν l₈ δ ws) $ split3 ! $
         -- [the columns, left; ν's token; the last flat records; the lender's part; the locals; the row's token; what
         -- the row owns]

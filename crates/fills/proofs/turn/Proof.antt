@@ -50,7 +50,7 @@ use Rattle.session.specs.declared.Session.{Session}
 use Rattle.session.specs.declared.Turned.{Turned}
 use Rattle.session.specs.Market.{marketOf}
 use Rattle.session.specs.Sound.{Sound}
-use Rattle.session.specs.Turn.{turnDone, turnOf, fillsIn}
+use Rattle.session.specs.Turn.{turnDone, turnOf, printed, fillsIn}
 use Rattle.fills.specs.declared.Fill.{Fill}
 use Rattle.fills.specs.Fills.{stored, Fits}
 use Rattle.fills.specs.Calls.{turnStored, turnWith}
@@ -59,7 +59,7 @@ use Rattle.session.proofs.Session as S
 use Rattle.session.proofs.Session.Laws as S′
 use Rattle.session.proofs.Turned as T
 use Rattle.session.proofs.Turned.Laws as T′
-use Rattle.fills.proofs.Flat.{RS, mach-of, A-216, L-216, ptr-of, RF, AR, zeros, typed-0, typed-of, xr, slice-of, StoreAll, lends-flat, flat-back, shares-flat, flat-whole, told-two, told-count, stores}
+use Rattle.fills.proofs.Flat.{RS, mach-of, A-216, L-216, ptr-of, RF, AR, zeros, typed-0, typed-of, xr, slice-of, StoreAll, lends-flat, flat-back, shares-flat, flat-whole, told-three, told-count, stores}
 use Rattle.fills.proofs.Two.{says-two}
 use Rattle.session.proofs.turn.turn_core as turn-core
 use Rattle.session.proofs.turn.turn_core.Symbol as turn-core-def
@@ -137,6 +137,9 @@ module _ {M : Type 1} (𝓤 : URA M) (H : Heap 𝓤) (A : Atoms 𝓤) (W : Given
 
   abbrev StaysSound : Turned → Each → Type 0
   StaysSound t w = Sound (marketOf (t .session) (after w) (x₅ .now))
+
+  abbrev Values : Turned → Type 0
+  Values t = printed (t .answer) ≡ printed (turnOf (marketOf h before (x₅ .now)) (length ys) zeros .answer)
 
   abbrev Told : Turned → Each → List Fill → Type 0
   Told t w zs = turnStored t (after w) (x₅ .now) zs ≡ turnWith (marketOf h before (x₅ .now)) ys
@@ -244,7 +247,7 @@ module _ {M : Type 1} (𝓤 : URA M) (H : Heap 𝓤) (A : Atoms 𝓤) (W : Given
         move ! (48 ∷ 2 ∷ 0 ∷ []) $ use3 W (raw (Core 𝓤 H A at-mem run .pre (to-core ν l₉ δ))) (goes-core ν l₉ δ) $
         -- [the callee's `pre`; the lender's part; the locals; the row's token; what the row owns]
         calls-at ! fm (Core 𝓤 H A at-mem run) known-core (to-core ν l₉ δ) (and-then ! (load ! (from ! (stop !)) (look ! 43 refl)) (and-then ! (load ! (from ! (stop !)) (look ! 22 refl)) (and-then ! (load ! (from ! (stop !)) (look ! 20 refl)) (and-then ! (load ! (from ! (stop !)) (look ! 18 refl)) (and-then ! (load ! (from ! (stop !)) (look ! 16 refl)) (and-then ! (load ! (from ! (stop !)) (look ! 14 refl)) (and-then ! (load ! (from ! (stop !)) (look ! 31 refl)) (and-then ! (load ! (from ! (stop !)) (look ! 12 refl)) (and-then ! (load ! (from ! (stop !)) (look ! 10 refl)) (no-more !)))))))))) (λ v.
-        told-two ! tt RT v (Tokens (ν ∷ []) fullShare) (λ (ws : Lasts-core). lasts turn-core.ended (κ₀, (κ₁, (κ₂, (κ₃, (κ₄, (κ₅, (ν ∷ [], tt))))))) (arg-core l₉ δ) ws) (λ t ws. Exact t (each ws) (last ws)) (λ t ws. StaysSound t (each ws)) (id⊢ 𝓤 _) (λ t ws ec es is-t.
+        told-three ! tt RT v (Tokens (ν ∷ []) fullShare) (λ (ws : Lasts-core). lasts turn-core.ended (κ₀, (κ₁, (κ₂, (κ₃, (κ₄, (κ₅, (ν ∷ [], tt))))))) (arg-core l₉ δ) ws) (λ t ws. Exact t (each ws) (last ws)) (λ t ws. StaysSound t (each ws)) (λ t _. Values t) (id⊢ 𝓤 _) (λ t ws ec es _ is-t.
         use2 W (‵ (Left (each ws)) ⊛ ‵ (flft (ν ∷ []) fullShare) ⊛ ‵ (fres δ (AR .coded .code (last ws)))) (back-core ν l₉ δ ws) $ split3 ! $
         -- [the columns, left; ν's token; the last flat records; the lender's part; the locals; the row's token; what
         -- the row owns]

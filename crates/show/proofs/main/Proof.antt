@@ -15,14 +15,14 @@ submit-requires : tie.Need-submit-requires
 submit-requires c κs =
     let opened = c .before .before in
     let set = opened .before .before .before .before .before .before .before in
-    λ a. opened .open-core .ensures .1 _ (set .settings .ensures .1 (set .before .before .before .before .before .before .before .before .new .ensures .1 _ _)) a .lanes
+    λ a. opened .open-core .ensures .1 .0 _ (set .settings .ensures .1 (set .before .before .before .before .before .before .before .before .new .ensures .1 _ _)) a .lanes
 
 submit-requires-2 : tie.Need-submit-requires-2
 submit-requires-2 c κs =
     let buys = c .before .before in
     let opened = buys .before .before .before in
     let set = opened .before .before .before .before .before .before .before in
-    λ a. buys .submit .ensures .1 _ (opened .open-core .ensures .1 _ (set .settings .ensures .1 (set .before .before .before .before .before .before .before .before .new .ensures .1 _ _))) a .lanes
+    λ a. buys .submit .ensures .1 _ (opened .open-core .ensures .1 .0 _ (set .settings .ensures .1 (set .before .before .before .before .before .before .before .before .new .ensures .1 _ _))) a .lanes
 
 on-row-requires : tie.Need-on-row-requires
 on-row-requires c κs =
@@ -30,7 +30,7 @@ on-row-requires c κs =
     let buys = sells .before .before .before in
     let opened = buys .before .before .before in
     let set = opened .before .before .before .before .before .before .before in
-    sells .submit2 .ensures .1 _ (buys .submit .ensures .1 _ (opened .open-core .ensures .1 _ (set .settings .ensures .1 (set .before .before .before .before .before .before .before .before .new .ensures .1 _ _))))
+    sells .submit2 .ensures .1 _ (buys .submit .ensures .1 _ (opened .open-core .ensures .1 .0 _ (set .settings .ensures .1 (set .before .before .before .before .before .before .before .before .new .ensures .1 _ _))))
 
 pub main-spec : {M : Type 1} → statement M
 main-spec =

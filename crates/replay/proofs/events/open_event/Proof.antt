@@ -13,4 +13,4 @@ open-event-spec =
     (λ c κs. c .before .before .before .before .before .before .before .before .pre .1 .1)
     (λ c entries can.
     let done = c .before .before .before .before .before .before .open-core .ensures in
-    open-replayed _ _ _ _ can _ _ _ refl (done .0 entries) (done .1 entries (can .sound)) (c .before .open-lines .ensures)))
+    open-replayed _ _ _ _ can _ _ _ refl (done .0 entries) (done .1 .0 entries (can .sound)) (c .before .open-lines .ensures)))

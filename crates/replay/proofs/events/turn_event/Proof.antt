@@ -29,4 +29,4 @@ turn-event-spec =
     (λ c.
     let can = c .before .before .before .before .before .before .before .before .before .before .before .pre in
     let done = c .before .before .before .before .turn-core .ensures in
-    turn-replayed _ _ _ _ can _ _ _ (done .0) (done .1) (c .before .turn-lines .ensures)))
+    turn-replayed _ _ _ _ can _ _ _ (done .0) (done .1 .0) (c .before .turn-lines .ensures)))

@@ -13,7 +13,7 @@ use Rattle.dealing.specs.declared.open.Way.{Way}
 use Rattle.dealing.specs.Open.{wayOf}
 use Rattle.dealing.specs.WayLaws.{priced-accepted}
 use Rattle.session.specs.OpenLaws.{by-way, can-open, quiet-is, matched-is}
-use Rattle.session.specs.OpenSoundLaws.{exact-sound}
+use Rattle.session.specs.OpenSoundLaws.{as-defined}
 use Rattle.session.proofs.open.open_core.Statement.{statement}
 use Rattle.session.proofs.open.open_core.Tie as tie
 
@@ -43,19 +43,19 @@ open-book-requires c κs =
     can-open (s .args .s) _ _ (s .pre .0 (priced-accepted _ _ _ _ _ (way-is w (s .args .records .now)) (c .before .before .before .before .way2 .given .1))) (s .pre .1)
 
 returns : tie.Need-returns
-returns c = exact-sound _ _ _ _ _ _ _ (made (c .before .before .before) _ (c .before .way .given .1))
+returns c = as-defined _ _ _ _ _ _ _ (made (c .before .before .before) _ (c .before .way .given .1))
 
 returns-2 : tie.Need-returns-2
 returns-2 c =
     let w = c .before .before .before .before in
-    exact-sound _ _ _ _ _ _ _
+    as-defined _ _ _ _ _ _ _
     (λ entries. quiet-is (lent w entries) _ _ (c .open-on .ensures) ∙ made w _ (c .before .before .enum-told .given .1) entries)
 
 returns-3 : tie.Need-returns-3
 returns-3 c =
     let done = c .before .before .before in
     let w = done .before .before .before .before .before .before .before in
-    exact-sound _ _ _ _ _ _ _
+    as-defined _ _ _ _ _ _ _
     (λ entries.
     matched-is (lent w entries) _ _ _ _ _ _ (done .open-book .ensures .0) (done .open-book .ensures .1 .0) (done .open-book .ensures .1 .1) (c .open-on2 .ensures)
     ∙ made w _ (done .before .before .before .before .before .way2 .given .1) entries)

@@ -4,7 +4,7 @@ use Prim.{tt}
 use borrow.Author.Needs.{needs}
 use Rattle.session.specs.Market.{Market, marketLent}
 use Rattle.session.specs.TakingLaws.{turns-held}
-use Rattle.session.specs.TurnLaws.{turn-refused, turn-nobody, turn-taken, can-take, can-count, can-number, can-deal, sound-after}
+use Rattle.session.specs.TurnLaws.{turn-refused, turn-nobody, turn-taken, can-take, can-count, can-number, can-deal, as-defined}
 use Rattle.session.proofs.turn.turn_core.Statement.{statement}
 use Rattle.session.proofs.turn.turn_core.Tie as tie
 
@@ -22,7 +22,7 @@ returns c =
     let start = c .before .before in
     let a = start .args in
     let done = turn-refused (before start) (a .lent) (a .records .now) _ (c .before .refusal .ensures) (c .if1 .taken) in
-    (done, sound-after (before start) (a .lent) (a .records .now) _ (start .pre .0) done)
+    as-defined (before start) (a .lent) (a .records .now) _ (start .pre .0) done
 
 returns-2 : tie.Need-returns-2
 returns-2 c =
@@ -31,7 +31,7 @@ returns-2 c =
     let done =
     turn-nobody (before start) (a .lent) (a .records .now) _ (c .before .before .before .before .before .refusal .ensures)
     (c .before .before .before .before .if1 .left) (c .before .before .served .ensures) (c .enum-told .given .1) in
-    (done, sound-after (before start) (a .lent) (a .records .now) _ (start .pre .0) done)
+    as-defined (before start) (a .lent) (a .records .now) _ (start .pre .0) done
 
 head-requires : tie.Need-head-requires
 head-requires c κs =
@@ -85,7 +85,7 @@ returns-3 c =
     turn-taken (before start) (a .lent) (a .records .now) _ (refused .refusal .ensures) (told .before .before .before .before .before .if1 .left)
     (told .before .before .before .served .ensures) _ (told .before .next .given .1) _ _ _ _ _ _ _ (taken .before .head .ensures)
     (taken .after-taking .ensures) (dealing .before .before .before .before .before .before .before .before .series-of .ensures) (dealing .deal .ensures) (c .answered .ensures) in
-    (done, sound-after (before start) (a .lent) (a .records .now) _ (start .pre .0) done)
+    as-defined (before start) (a .lent) (a .records .now) _ (start .pre .0) done
 
 pub turn-core-spec : {M : Type 1} → statement M
 turn-core-spec =
