@@ -19,6 +19,7 @@ pub mod TradingLaws
 pub mod Answers
 pub mod SweptLaws
 pub mod SoundLaws
+pub mod BestLaws
 pub mod RestLaws
 pub mod RecordSums
 pub mod RestingLaws

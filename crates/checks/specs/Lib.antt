@@ -3,3 +3,4 @@ pub mod TurnDown
 pub mod WidthLaws
 pub mod AsJudgedLaws
 pub mod TurnDownLaws
+pub mod Words

@@ -1,6 +1,6 @@
--- Demand 2, as statements: each call answers by the rules of document 01. The proofs stand in Demand2Refusals,
--- Demand2Stores, Demand2Turn, Demand2Fills and Demand2Opening. Demand2Rows goes on with what a turn leaves row by row,
--- and Demand2Whole has all of them.
+-- Demand 2, as statements: each call answers by the rules of document 01, of which those for one order stand in Rules.
+-- The proofs stand in Demand2Refusals, Demand2Stores, RulesProof, Demand2Turn, Demand2Fills and Demand2Opening.
+-- Demand2Rows goes on with what a turn leaves row by row, and Demand2Whole has all of them.
 use mathlib.Core.Path.{_≡_}
 use mathlib.Core.Logic.{_↔_, _⊎_}
 use mathlib.Core.Bool.{true, false}
@@ -10,7 +10,7 @@ use lib.ListN.{length, take}
 use Rattle.units.specs.declared.Cents.{Cents}
 use Rattle.units.specs.declared.grid.Grid.{Grid}
 use Rattle.units.specs.declared.grid.Chosen.the-variants.{One}
-use Rattle.units.specs.Units.{cents, contracts, tenants}
+use Rattle.units.specs.Units.{tenants}
 use Rattle.units.specs.Grid.{gridOf}
 use Rattle.units.specs.Places.{at}
 use Rattle.units.specs.Precedence.{Before}
@@ -27,26 +27,26 @@ use Rattle.entry.specs.declared.Entry.{Entry}
 use Rattle.entry.specs.declared.Settings.{Settings}
 use Rattle.entry.specs.Settings.{termsOf}
 use Rattle.entry.specs.Entry.{isLimit, isCancel, isBuy, isSell, malformed}
-use Rattle.checks.specs.TurnDown.{asJudged, mightRest, turnDowns}
+use Rattle.checks.specs.TurnDown.{mightRest}
 use Rattle.judge.specs.Bound.{boundOf}
-use Rattle.judge.specs.Disposition.{dispositions}
 use Rattle.lanes.specs.declared.Served.the-variants.{Lane}
 use Rattle.lanes.specs.Ring.{entryAt, lenOf, taken as laneTaken}
 use Rattle.lanes.specs.Rotation.{waits, served}
 use Rattle.lanes.specs.Runs.{FirstBusy}
 use Rattle.lanes.specs.Waiting.{waiting, givenIn}
-use Rattle.price.specs.declared.Choice.the-variants.{At}
-use Rattle.price.specs.PriceLaws.{First, NoneUsable}
+use Rattle.price.specs.Words.{NoPrice, FirstValid}
 use Rattle.tally.specs.Tallies.{turnsInAll}
 use Rattle.session.specs.Market.{Market, marketOf, withAway}
 use Rattle.dealing.specs.Settle.{opposite}
 use Rattle.session.specs.Settings.{resetOn, settingsOf, awayOf}
 use Rattle.session.specs.Submit.{withEntries, submitOf}
-use Rattle.session.specs.Turn.{Printed, refused as refusedBy, turnedDownBy, cancelledAs, acceptedAs, printed, fillsIn, quotesIn, standingOf, turnOf}
+use Rattle.session.specs.Turn.{Printed, refused as refusedBy, turnedDownBy, cancelledAs, acceptedAs, printed, fillsIn, quotesIn, turnOf}
 use Rattle.session.specs.Open.{Line, refusedBy as openRefusedBy, openedAt, printed as printedOpen, fillsIn as fillsOpened, sourcesOf, openOf}
 use Rattle.session.specs.Sound.{Sound}
 use Rattle.demands.specs.Runs.{headEntry}
-use Rattle.demands.specs.InOrder.{Rule, _if_, NoneOf, ruled, GivenInOrder}
+use Rattle.demands.specs.InOrder.{Rule, _if_, NoneOf, GivenInOrder}
+pub use Rattle.demands.specs.Rules.{judged, turnDownRules, dispositionRules}
+use Rattle.demands.specs.Rules.{MayTrade}
 
 -- ---- answers, in the paper's numbers
 
@@ -117,12 +117,12 @@ turnRules m lent =
     ∷ []
 
 -- open: 9 already open, 6 as above, 20 no valid opening price, where some resting buy is at or above a resting sell
-abbrev pub openRules : Market → ℕ → List Rule
-openRules m lent =
+abbrev pub openRules : Market → ℕ → Type 0 → List Rule
+openRules m lent crossing =
     noSettings m
     ∷ (9 if m .session .opened ≡ true)
     ∷ (6 if lent < 216)
-    ∷ (20 if ((crosses (m .book) ≡ true) × NoneUsable (sourcesOf (m .session))))
+    ∷ (20 if (crossing × NoPrice (sourcesOf (m .session))))
     ∷ []
 
 -- some resting buy is at or above a resting sell
@@ -149,8 +149,11 @@ pub record RefusedInOrder : Type 0 where
       → GivenInOrder (submitRules m tenant count ns) (λ n. submitOf m tenant count ns .code ≡ n) (submitOf m tenant count ns .code ≡ 0)
   pub turn : (m : Market) (lent : ℕ) (was : List ℕ)
       → GivenInOrder (turnRules m lent) (λ n. turnPrinted m lent was ≡ refusedBy n) ((n : ℕ) → turnPrinted m lent was ≡ refusedBy n → ⊥)
+  -- of any market, where its book crosses; of a sound one, where some resting buy is at or above a resting sell
   pub open-call : (m : Market) (lent : ℕ) (was : List ℕ)
-      → GivenInOrder (openRules m lent) (λ n. openPrinted m lent was ≡ openRefusedBy n) (openPrinted m lent was .code ≡ 0)
+      → GivenInOrder (openRules m lent (crosses (m .book) ≡ true)) (λ n. openPrinted m lent was ≡ openRefusedBy n) (openPrinted m lent was .code ≡ 0)
+  pub open-sound : (m : Market) (lent : ℕ) (was : List ℕ) → Sound m → m .session .accepted ≡ true
+      → GivenInOrder (openRules m lent (Crossing (m .book))) (λ n. openPrinted m lent was ≡ openRefusedBy n) (openPrinted m lent was .code ≡ 0)
   -- a sound book crosses exactly where some resting buy is at or above a resting sell
   pub crossing : (m : Market) → Sound m → m .session .accepted ≡ true → (crosses (m .book) ≡ true) ↔ Crossing (m .book)
 
@@ -184,19 +187,6 @@ pub record AcceptedStores : Type 0 where
 pub record TakenBy (m : Market) (lent t : ℕ) : Type 0 where
   pub not-refused : NoneOf (turnRules m lent)
   pub lane : served (m .session .lanes) ≡ Lane t
-
-module _ (m : Market) (t : ℕ) where
-  -- the rules 10 to 19 for the head entry of the lane, with NBB and NBO before it trades
-  abbrev pub turnDownRules : List Rule
-  turnDownRules = ruled (turnDowns (headEntry m t) (quotesIn m) (m .session .terms) (standingOf m t))
-
-  -- the order as judged: a converted order is a limit from there on
-  abbrev pub judged : Entry
-  judged = asJudged (headEntry m t) (quotesIn m) (m .session .terms)
-
-  -- the rules for its disposition, with so much of it left
-  abbrev pub dispositionRules : ℕ → List Rule
-  dispositionRules left = ruled (dispositions judged (quotesIn m) (m .session .terms) (contracts left))
 
 -- row i is the resting order of that number, and that tenant's
 pub record RestsAs (b : Book) (t number i : ℕ) : Type 0 where
@@ -283,6 +273,10 @@ pub record FilledRight (m : Market) (t : ℕ) (filled : ℕ) : Type 0 where
   pub lesser : filled ≡ min (judged m t .size .0) (sumTo (opensAt m t) (m .book .places))
   -- contracts bought equal contracts sold: the rows together trade what is filled
   pub in-all : sumTo (trades m t) (m .book .places) ≡ filled
+  -- a row may be traded exactly if it rests on the opposite side at a price within the bound, and then all that rests of
+  -- it
+  pub may-trade : (i : ℕ) → i < m .book .places → (0 < opensAt m t i) ↔ MayTrade m t i
+  pub all-open : (i : ℕ) → 0 < opensAt m t i → opensAt m t i ≡ sizeAt (m .book) i
   -- no row trades more than may be traded of it, and only opposite ones do
   pub most : (i : ℕ) → trades m t i ≤ opensAt m t i
   pub opposite-side : (i : ℕ) → 0 < trades m t i → sideAt (m .book) i ≡ opposite (judged m t)
@@ -379,7 +373,7 @@ Cancelled m p i =
 -- the opening of a market at a price P, with the fill records and the book that it leaves
 pub record OpenedAt (m : Market) (was : List ℕ) (p traded fills : ℕ) (l : List ℕ) (after : Book) : Type 0 where
   -- the price is the first valid of midpoint, last print and previous close
-  pub price : First (sourcesOf (m .session)) (At (cents p))
+  pub price : FirstValid (sourcesOf (m .session)) p
   -- the volume is the lesser of buys at P or more and sells at P or less, and both sides fill it: as much is bought as
   -- sold
   pub lesser : traded ≡ min (sumTo (buysAt m p) (m .book .places)) (sumTo (sellsAt m p) (m .book .places))

@@ -1,6 +1,6 @@
 -- Demand 2's fills: the laws of the allocation, of the bound and of the records, told of an accepted order.
 use mathlib.Core.Path.{_≡_, refl, sym, _∙_, ap}
-use mathlib.Core.Logic.{_⊎_}
+use mathlib.Core.Logic.{_↔_, _⊎_, ⊎-elim, Iff·trans}
 use mathlib.Core.Bool.{Bool, true, false, _&&_, cond}
 use mathlib.Core.List.{List}
 use Prim.Native.Nat.{ℕ, _+_, _-_, _*_, _/_, _%_, _≤_, _<_}
@@ -24,13 +24,14 @@ use Rattle.book.specs.RecordSums.{written-at}
 use Rattle.book.specs.Sound.{SoundBook}
 use Rattle.book.specs.SoundLaws.{sound-apart, row-of, live-apart}
 use Rattle.book.specs.Trading.{reach, filled as filledBy, traded, afterTrade, tradedRows, tradeRecords, tradeWritten}
-use Rattle.book.specs.TradingLaws.{traded-open, traded-most, traded-side, all-traded}
+use Rattle.book.specs.TradingLaws.{open-side, open-all, traded-open, traded-most, traded-side, all-traded}
 use Rattle.entry.specs.declared.Away.{Away}
 use Rattle.entry.specs.declared.Entry.{Entry}
 use Rattle.entry.specs.Entry.{isCancel, isBuy, isSell, newOrder}
 use Rattle.entry.specs.EntryLaws.{new-proper, new-unless-cancel}
 use Rattle.checks.specs.AsJudgedLaws.{judged-proper}
 use Rattle.judge.specs.BoundLaws.{buy-limit, buy-away, sell-limit, sell-away}
+use Rattle.judge.specs.Words.{buy-bound-says, sell-bound-says}
 use Rattle.session.specs.Market.{Market, floorOn}
 use Rattle.dealing.specs.Settle.{opposite}
 use Rattle.dealing.specs.Sound.{Ready}
@@ -38,6 +39,7 @@ use Rattle.session.specs.Sound.{Sound}
 use Rattle.session.specs.Turn.{quotesIn, turnOf}
 use Rattle.demands.specs.Runs.{headEntry}
 use Rattle.demands.specs.TurnCases.{quotes-away}
+use Rattle.demands.specs.Rules.{MayTrade, to-buy, to-sell}
 use Rattle.demands.specs.Demand2.{turnFills, TakenBy, judged, boundIn, opensAt, trades, onceTraded, FilledRight, RecordAt, RecordedRight, LeftRight, OrdersFilled}
 use Rattle.demands.specs.Demand2Turn.{set-in, taken-by, serves-first, accepted-served, accepted-traded}
 
@@ -69,6 +71,13 @@ open-whole s bound side price size = go (eqb side s && within s price bound)
     go : (a : Bool) → 0 < keep a size → keep a size ≡ size
     go true x = refl
     go false x = absurd (omega arith)
+
+-- so a row may be traded exactly if it rests on the side, within the bound
+open-says : (s bound side price size : ℕ) → (0 < openSize s bound side price size) ↔ ((0 < size) × (side ≡ s) × (within s price bound ≡ true))
+open-says s bound side price size = (
+  λ x. (omega (arith, open-most s bound side price size), open-side s bound side price size x, open-within s bound side price size x),
+  λ (rests, on, w). omega (arith, open-all s bound side price size on w),
+)
 
 -- a better price has the lower key
 offer-better : (p q : ℕ) → p < q → keyOf 2 p < keyOf 2 q
@@ -228,11 +237,47 @@ module _ (m : Market) (ready : Ready (floorOn (m .session) (m .book))) (t : ℕ)
       let same = ap (λ (x : Away). x .bid .0) (quotes-away m) in
       omega (arith, sell-away e (quotesIn m) (m .session .terms) h (lt-ltb 0 (quotesIn m .away .bid .0) (omega arith)))
 
+  -- a row may be traded exactly if it rests on the opposite side at a price within the bound
+  may-buy : isBuy e ≡ true → (i : ℕ) → i < b .places → (0 < opensAt m t i) ↔ MayTrade m t i
+  unfolding within
+  may-buy h i p =
+      let buys = eqb-true (e .side) 1 h in
+      let says = buy-bound-says e (quotesIn m) (m .session .terms) (priceAt b i) buys in
+      rw (buys-offers e h) (Iff·trans (open-says 2 (boundIn m t) (sideAt b i) (priceAt b i) (sizeAt b i)) (
+        λ (rests, on, w).
+            let priced = row-of (ready .book) i p rests in
+            to-buy buys (record { row = p; rests = rests; on = on }) (says (priced .price-least) (priced .price-most) .0 (leb-true _ _ w)),
+        λ may. elim may [
+          | to-buy _ r w ↦
+              (let priced = row-of (ready .book) i p (r .rests) in
+              (r .rests, r .on, le-leb _ _ (says (priced .price-least) (priced .price-most) .1 w)))
+          | to-sell sells r w ↦ absurd (omega arith)
+        ],
+      ))
+
+  may-sell : isSell e ≡ true → (i : ℕ) → i < b .places → (0 < opensAt m t i) ↔ MayTrade m t i
+  unfolding within
+  may-sell h i p =
+      let sells = eqb-true (e .side) 2 h in
+      let says = sell-bound-says e (quotesIn m) (m .session .terms) (priceAt b i) sells in
+      rw (sells-bids e h) (Iff·trans (open-says 1 (boundIn m t) (sideAt b i) (priceAt b i) (sizeAt b i)) (
+        λ (rests, on, w). to-sell sells (record { row = p; rests = rests; on = on }) (says (row-of (ready .book) i p rests .price-least) .0 (leb-true _ _ w)),
+        λ may. elim may [
+          | to-buy buys r w ↦ absurd (omega arith)
+          | to-sell _ r w ↦ (r .rests, r .on, le-leb _ _ (says (row-of (ready .book) i p (r .rests) .price-least) .1 w))
+        ],
+      ))
+
+  may-trade-is : (isBuy e ≡ true) ⊎ (isSell e ≡ true) → (i : ℕ) → i < b .places → (0 < opensAt m t i) ↔ MayTrade m t i
+  may-trade-is sides i p = ⊎-elim (λ h. may-buy h i p) (λ h. may-sell h i p) sides
+
   filled-right : (filled : ℕ) → filled ≡ filledBy b side (boundIn m t) (e .size .0) → (isBuy e ≡ true) ⊎ (isSell e ≡ true) → FilledRight m t filled
   unfolding filledBy restingWithin whole
   filled-right filled is sides = record {
     lesser = is;
     in-all = all-traded b side (boundIn m t) (e .size .0) allocation (sound-apart (ready .book) side (boundIn m t)) ∙ sym is;
+    may-trade = may-trade-is sides;
+    all-open = λ i. open-whole side (boundIn m t) (sideAt b i) (priceAt b i) (sizeAt b i);
     most = traded-open b side (boundIn m t) (e .size .0) allocation;
     opposite-side = traded-side b side (boundIn m t) (e .size .0) allocation;
     sided = sides;

@@ -1,14 +1,13 @@
 -- Demand 2's opening: the laws of the match at one price, told of an accepted open.
 use mathlib.Core.Path.{_≡_, refl, sym, _∙_, ap, subst}
-use mathlib.Core.Logic.{_↔_, _⊎_, inl, inr, ⊎-elim}
-use mathlib.Core.Bool.{Bool, true, false, _&&_, _||_, cond, and-eq-true-iff}
+use mathlib.Core.Logic.{_↔_, Iff·trans}
+use mathlib.Core.Bool.{Bool, true, false, _&&_, _||_, cond}
 use mathlib.Core.List.{List}
 use Prim.Native.Nat.{ℕ, _+_, _-_, _≤_, _<_}
 use native.Mathlib.Omega.{arith}
 use lib.Dec.{leb, ltb, eqb}
-use borrow.Author.Tests.{lt-ltb, le-leb, eq-eqb, ltb-true, leb-true, eqb-true}
-use Rattle.units.specs.Units.{cents}
 use Rattle.units.specs.Tests.{fails, holds-not-fails}
+use Rattle.units.specs.Says.{same-says, less-says, most-says, &&-says, ||-says}
 use Rattle.units.specs.Places.{table-at}
 use Rattle.units.specs.Precedence.{Before, at-better, at-same}
 use Rattle.rows.specs.Rows.{highest, keyOf, selling}
@@ -26,8 +25,7 @@ use Rattle.book.specs.Sound.{SoundBook, Uncrossed}
 use Rattle.book.specs.SoundLaws.{quiet-uncrossed, row-of, live-apart}
 use Rattle.book.specs.Trading.{reach, traded}
 use Rattle.book.specs.TradingLaws.{open-side, traded-open}
-use Rattle.price.specs.declared.Choice.the-variants.{At}
-use Rattle.price.specs.PriceLaws.{First}
+use Rattle.price.specs.Words.{FirstValid, first-says}
 use Rattle.session.specs.Market.{Market}
 use Rattle.session.specs.Open.{OpenDone, Line, refusedBy, openedAt, printed, fillsIn, sourcesOf, openQuiet, openAt}
 use Rattle.session.specs.Sound.{Sound}
@@ -116,22 +114,14 @@ module _ (b : Book) (next : ℕ) (sound : SoundBook b next) (p : ℕ) where
 
 -- a row that goes is on the side, something of that side remains, and its price meets the other side's
 three-say : (side s within low high : ℕ) → ((eqb side s && ltb 0 within && leb low high) ≡ true) ↔ ((side ≡ s) × (0 < within) × (low ≤ high))
-three-say side s within low high = (
-  λ h.
-      let (front, price) = and-eq-true-iff (eqb side s && ltb 0 within) _ .0 h in
-      let (on, some) = and-eq-true-iff (eqb side s) _ .0 front in
-      (eqb-true side s on, ltb-true 0 within some, leb-true low high price),
-  λ (on, some, price). rw (eq-eqb side s on, lt-ltb 0 within some, le-leb low high price) refl,
-)
-
-either-says : (a b : Bool) {P Q : Type 0} → (a ≡ true) ↔ P → (b ≡ true) ↔ Q → ((a || b) ≡ true) ↔ (P ⊎ Q)
-either-says true b p q = (λ h. inl (p .0 refl), λ x. refl)
-either-says false b p q = (λ h. inr (q .0 h), ⊎-elim (λ x. absurd (holds-not-fails (p .1 x) refl)) (q .1))
+three-say side s within low high = Iff·trans
+    (&&-says (&&-says (same-says side s) (less-says 0 within)) (most-says low high))
+    (λ ((on, some), price). (on, some, price), λ (on, some, price). ((on, some), price))
 
 module _ (m : Market) (p : ℕ) where
   goes-says : (i : ℕ) → ((buyGoes (m .book) p i || sellGoes (m .book) p i) ≡ true) ↔ Cancelled m p i
   unfolding buyGoes sellGoes
-  goes-says i = either-says (buyGoes (m .book) p i) (sellGoes (m .book) p i)
+  goes-says i = ||-says
       (three-say (sideAt (m .book) i) 1 (withinBound (onceFilled m p) 1 p) (bestSell (onceFilled m p)) (priceAt (m .book) i))
       (three-say (sideAt (m .book) i) 2 (withinBound (onceFilled m p) 2 p) (priceAt (m .book) i) (bestBid (onceFilled m p)))
 
@@ -154,7 +144,7 @@ module _ (m : Market) (was : List ℕ) (next : ℕ) (sound : SoundBook (m .book)
   abbrev b : Book
   b = m .book
 
-  opened-at : (traded fills : ℕ) → First (sourcesOf (m .session)) (At (cents p)) → traded ≡ volume b p → fills ≡ openingRecords b p
+  opened-at : (traded fills : ℕ) → FirstValid (sourcesOf (m .session)) p → traded ≡ volume b p → fills ≡ openingRecords b p
       → OpenedAt m was p traded fills (openingWritten b p was) (afterOpening b p)
   unfolding volume restingWithin openingRecords openingWritten
   opened-at traded fills price is count = record {
@@ -199,7 +189,7 @@ module _ (m : Market) (lent : ℕ) (was : List ℕ) (price traded : ℕ) where
   opens-at sound h (quiet e c) x = absurd (holds-not-fails h c)
   opens-at sound h (opens p e c f) x =
       subst (λ k. OpenedAt m was k traded (openingRecords (m .book) (p .0)) (openingWritten (m .book) (p .0) was) (afterOpening (m .book) (p .0))) (ap (λ (l : Line). l .price) x)
-      (opened-at m was (m .session .next) (sound (open-set m lent e) .ready .book) (p .0) traded (openingRecords (m .book) (p .0)) f (sym (ap (λ (l : Line). l .volume) x)) refl)
+      (opened-at m was (m .session .next) (sound (open-set m lent e) .ready .book) (p .0) traded (openingRecords (m .book) (p .0)) (first-says (sourcesOf (m .session)) f refl) (sym (ap (λ (l : Line). l .volume) x)) refl)
 
   opens-uncrossed : Sound m → {d : OpenDone} → Outcome m lent was d → Answers d
       → (d .market .session .opened ≡ true) × Uncrossed (d .market .book)

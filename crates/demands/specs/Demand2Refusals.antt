@@ -1,11 +1,11 @@
 -- Demand 2's refusals: each call's list of tests reads as its rules.
 use mathlib.Core.Path.{_≡_, refl, sym, ap, _∙_}
-use mathlib.Core.Logic.{_↔_, _⊎_, inl, inr, ⊎-elim, ⊎-map}
+use mathlib.Core.Logic.{_↔_, _⊎_, inl, inr, ⊎-elim, ⊎-map, Iff·rfl, Iff·trans}
 use mathlib.Core.Bool.{Bool, true, false, true≢false, cond, _&&_}
 use mathlib.Core.List.{List}
 use Prim.Native.Nat.{ℕ, _*_, _%_, _≤_, _<_}
 use native.Mathlib.Omega.{arith}
-use lib.Dec.{leb, ltb, eqb}
+use lib.Dec.{leb, eqb}
 use lib.ListN.{length}
 use borrow.Author.Tests.{lt-ltb, le-ltb, ltb-true, ltb-false, le-leb, leb-true, eq-eqb, eqb-true, eqb-false}
 use Rattle.units.specs.Units.{tenants}
@@ -14,18 +14,18 @@ use Rattle.units.specs.declared.grid.Grid.{Grid}
 use Rattle.units.specs.declared.grid.Chosen.{Chosen}
 use Rattle.units.specs.declared.grid.Chosen.the-variants.{One, NoSuch}
 use Rattle.units.specs.Grid.{gridOf, stepping}
-use Rattle.units.specs.Picked.{keep}
-use Rattle.units.specs.Leasts.{least-found, greatest-found, greatest-most}
-use Rattle.units.specs.Tests.{_and_, _or_, isNot, and-true, and-holds, or-true, not-holds, not-fails, fails, holds-not-fails, order, less, equal, more}
+use Rattle.units.specs.Says.{not-says, same-says, less-says, most-says, and-says, or-says}
+use Rattle.units.specs.Tests.{_and_, isNot, and-true, and-holds, or-true, not-holds, not-fails, fails, holds-not-fails, order, less, equal, more}
 use Rattle.units.specs.Firsts.{firstTo, first-holds, first-least, first-before}
-use Rattle.rows.specs.Rows.{highest, noPrice, buyPrice, sellPrice}
-use Rattle.rows.specs.Passes.{highestBuy, lowestSell}
-use Rattle.book.specs.Book.{Book, sideAt, priceAt, sizeAt, bestBid, bestSell, crosses}
+use Rattle.rows.specs.Rows.{highest}
+use Rattle.book.specs.Book.{Book, bestBid, bestSell, crosses}
 use Rattle.book.specs.SoundLaws.{row-of}
 use Rattle.book.specs.Sound.{SoundBook}
 use Rattle.book.specs.BookLaws.{buy-most, sell-least}
+use Rattle.book.specs.BestLaws.{bid-found, lowest-found, bid-most}
 use Rattle.price.specs.Price.{noneValid}
-use Rattle.price.specs.PriceLaws.{NoneUsable, none-valid}
+use Rattle.price.specs.PriceLaws.{none-valid}
+use Rattle.price.specs.Words.{NoPrice, none-says}
 use Rattle.entry.specs.Numbers.{entryNumbers, bulk, oneOrTwo, from1to}
 use Rattle.entry.specs.declared.Settings.{Settings}
 use Rattle.entry.specs.Settings.{seriesInRange, protectionsInRange, printsInRange, inRange}
@@ -54,39 +54,13 @@ use Rattle.demands.specs.TurnCases.{valuesOf, laneTold, lane-told, leave
 use Rattle.demands.specs.OpenCases as open-cases
 use Rattle.demands.specs.Demand2.{turnPrinted, openPrinted, InList, awayRules, submitRules, turnRules, openRules, Crossing, RefusedInOrder}
 
--- ---- tests and what they say
-
-not-says : (t : Bool) → (isNot t ≡ true) ↔ (t ≡ false)
-not-says t = (not-holds t, not-fails t)
-
-less-says : (a b : ℕ) → (ltb a b ≡ true) ↔ (a < b)
-less-says a b = (ltb-true a b, lt-ltb a b)
-
-most-says : (a b : ℕ) → (leb a b ≡ true) ↔ (a ≤ b)
-most-says a b = (leb-true a b, le-leb a b)
-
-or-left : (a b : Bool) → a ≡ true → (a or b) ≡ true
-unfolding _or_
-or-left a b h = rw h
-
-or-right : (a b : Bool) → b ≡ true → (a or b) ≡ true
-unfolding _or_
-or-right true b h = refl
-or-right false b h = h
-
-either : {a b : Bool} {P Q : Type 0} → (a ≡ true) ↔ P → (b ≡ true) ↔ Q → ((a or b) ≡ true) ↔ (P ⊎ Q)
-either {a} {b} p q = (
-  λ h. ⊎-elim (λ x. inl (p .0 x)) (λ y. inr (q .0 y)) (or-true a b h),
-  ⊎-elim (λ x. or-left a b (p .1 x)) (λ y. or-right a b (q .1 y)),
-)
-
 -- ---- away
 
 away-in-order : (m : Market) (bid offer : Cents) → GivenInOrder (awayRules m bid offer) (λ n. awayOf m bid offer .code ≡ n) (awayOf m bid offer .code ≡ 0)
 unfolding awayRefusal tooHigh
 away-in-order m bid offer =
     number-in-order 0 (awayCases (m .session) bid offer) (awayRules m bid offer) refl
-    (refl, not-says _, (refl, either (less-says _ _) (less-says _ _), tt))
+    (refl, not-says _, (refl, or-says (less-says _ _) (less-says _ _), tt))
     (call-code m _ _ (away-came m bid offer))
 
 -- ---- submit
@@ -195,18 +169,18 @@ module _ (m : Market) (lent : ℕ) (was : List ℕ) where
   open-comes (open-cases.quiet e c) = by-none e refl (λ k x. sym (ap (λ (l : Line). l .code) x))
   open-comes (open-cases.opens p e c f) = by-none e refl (λ k x. sym (ap (λ (l : Line). l .code) x))
 
-  no-price-says : (crosses (m .book) and noneValid (choiceOf (m .session)) ≡ true) ↔ ((crosses (m .book) ≡ true) × NoneUsable (sourcesOf (m .session)))
+  no-price-says : (noneValid (choiceOf (m .session)) ≡ true) ↔ NoPrice (sourcesOf (m .session))
   unfolding choiceIn
-  no-price-says =
-      let none = none-valid (sourcesOf (m .session)) in
-      (λ h. (let p = and-true _ _ h in (p .0, none .0 (p .1))), λ p. and-holds _ _ (p .0) (none .1 (p .1)))
+  no-price-says = Iff·trans (none-valid (sourcesOf (m .session))) (none-says (sourcesOf (m .session)))
 
-  open-reads : Reads (openCases m lent) (openRules m lent)
-  open-reads = (refl, not-says _, (refl, (λ h. h, λ h. h), (refl, less-says _ _, (refl, no-price-says, tt))))
+  -- however it is said that the book crosses
+  module _ {crossing : Type 0} (says : (crosses (m .book) ≡ true) ↔ crossing) where
+    open-reads : Reads (openCases m lent) (openRules m lent crossing)
+    open-reads = (refl, not-says _, (refl, Iff·rfl, (refl, less-says _ _, (refl, and-says says no-price-says, tt))))
 
-  open-in-order : GivenInOrder (openRules m lent) (λ n. openPrinted m lent was ≡ openRefusedBy n) (openPrinted m lent was .code ≡ 0)
-  unfolding wayRefusal
-  open-in-order = comes-in-order (openCases m lent) (openRules m lent) refl open-reads (open-comes (open-cases.outcome m lent was))
+    open-in-order : GivenInOrder (openRules m lent crossing) (λ n. openPrinted m lent was ≡ openRefusedBy n) (openPrinted m lent was .code ≡ 0)
+    unfolding wayRefusal
+    open-in-order = comes-in-order (openCases m lent) (openRules m lent crossing) refl open-reads (open-comes (open-cases.outcome m lent was))
 
 -- ---- settings
 
@@ -243,7 +217,7 @@ module _ (s : Settings) where
 
   one-or-two : (n : ℕ) → (n ≡ 1) ⊎ (n ≡ 2) → oneOrTwo n ≡ true
   unfolding oneOrTwo
-  one-or-two n = either (eqb-true n 1, eq-eqb n 1) (eqb-true n 2, eq-eqb n 2) .1
+  one-or-two n = or-says (same-says n 1) (same-says n 2) .1
 
   list-in : InList s → inRange s ≡ true
   unfolding inRange seriesInRange protectionsInRange printsInRange from1to
@@ -296,51 +270,21 @@ module _ (s : Settings) where
 
 -- ---- a sound book that crosses
 
-sell-found : (side price size : ℕ) → sellPrice side price size < noPrice → (side ≡ 2) × (0 < size) × (sellPrice side price size ≡ price)
-unfolding sellPrice
-sell-found side price size = go (eqb side 2) (ltb 0 size) refl refl
-  where
-    go : (a b : Bool) → eqb side 2 ≡ a → ltb 0 size ≡ b → cond (a && b) price noPrice < noPrice → (side ≡ 2) × (0 < size) × (cond (a && b) price noPrice ≡ price)
-    go true true x y h = (eqb-true side 2 x, ltb-true 0 size y, refl)
-    go true false x y h = absurd (omega arith)
-    go false b x y h = absurd (omega arith)
-
-buy-found : (side price size : ℕ) → 0 < buyPrice side price size → (side ≡ 1) × (0 < size) × (buyPrice side price size ≡ price)
-unfolding buyPrice
-buy-found side price size = go (eqb side 1) (ltb 0 size) refl refl
-  where
-    go : (a b : Bool) → eqb side 1 ≡ a → ltb 0 size ≡ b → 0 < keep (a && b) price → (side ≡ 1) × (0 < size) × (keep (a && b) price ≡ price)
-    go true true x y h = (eqb-true side 1 x, ltb-true 0 size y, refl)
-    go true false x y h = absurd (omega arith)
-    go false b x y h = absurd (omega arith)
-
 module _ (b : Book) (next : ℕ) (sound : SoundBook b next) where
-  -- the best bid and the lowest sell are those of rows, and prices
-  bid-most : bestBid b ≤ highest
-  unfolding highestBuy
-  bid-most = greatest-most (λ i. buyPrice (sideAt b i) (priceAt b i) (sizeAt b i)) (b .places) highest λ i p. elim (order 0 (buyPrice (sideAt b i) (priceAt b i) (sizeAt b i))) [
-    | less h ↦ (let (_, x, is) = buy-found _ _ _ h in omega (arith, is, row-of sound i p x .price-most))
-    | equal h ↦ omega arith
-    | more h ↦ omega arith
-  ]
-
+  -- the rows of the lowest sell and of the best bid
   crossing-found : bestSell b ≤ bestBid b → Crossing b
-  unfolding highestBuy lowestSell
   crossing-found h =
-      let (j, q, sells) = least-found noPrice (λ i. sellPrice (sideAt b i) (priceAt b i) (sizeAt b i)) (b .places) (omega (arith, bid-most)) in
-      let (side-j, rests-j, price-j) = sell-found (sideAt b j) (priceAt b j) (sizeAt b j) (omega (arith, bid-most)) in
-      let priced = row-of sound j q rests-j .price-least in
-      let (i, p, buys) = greatest-found (λ i. buyPrice (sideAt b i) (priceAt b i) (sizeAt b i)) (b .places) (omega arith) in
-      let (side-i, rests-i, price-i) = buy-found (sideAt b i) (priceAt b i) (sizeAt b i) (omega arith) in
+      let (j, s, sells) = lowest-found b (omega (arith, bid-most b next sound)) in
+      let (i, r, buys) = bid-found b (omega (arith, row-of sound j (s .row) (s .rests) .price-least)) in
       record {
         buy = i;
         sell = j;
-        buy-row = p;
-        sell-row = q;
-        buy-rests = rests-i;
-        sell-rests = rests-j;
-        buys = side-i;
-        sells = side-j;
+        buy-row = r .row;
+        sell-row = s .row;
+        buy-rests = r .rests;
+        sell-rests = s .rests;
+        buys = r .on;
+        sells = s .on;
         at-or-above = omega arith;
       }
 
@@ -365,6 +309,7 @@ refused-in-order = record {
   away = away-in-order;
   submit = submit-in-order;
   turn = turn-in-order;
-  open-call = open-in-order;
+  open-call = λ m lent was. open-in-order m lent was Iff·rfl;
+  open-sound = λ m lent was sound set. open-in-order m lent was (book-crosses (m .book) (m .session .next) (sound set .ready .book));
   crossing = λ m sound set. (let ready = sound set .ready in book-crosses (m .book) (m .session .next) (ready .book));
 }

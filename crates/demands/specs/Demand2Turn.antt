@@ -7,15 +7,18 @@ use Prim.Native.Nat.{ℕ, _+_, _-_, _<_}
 use native.Mathlib.Omega.{arith}
 use lib.Dec.{ltb, eqb}
 use lib.ListN.{take}
-use borrow.Author.Tests.{lt-ltb, le-leb, leb-true, eq-eqb, ltb-true, eqb-true}
+use borrow.Author.Tests.{lt-ltb, eq-eqb, ltb-true, eqb-true}
 use Rattle.units.specs.Units.{contracts}
-use Rattle.units.specs.Tests.{pick, and-true, and-holds, holds-not-fails}
+use Rattle.units.specs.Tests.{pick, holds-not-fails}
+use Rattle.units.specs.CountLaws.{one-count}
 use Rattle.units.specs.Firsts.{firstTo, first-holds, first-least}
 use Rattle.rows.specs.Rows.{isOrder}
 use Rattle.rows.specs.Passes.{orderRow}
 use Rattle.book.specs.Book.{Book, sizeAt, ownerAt, numberAt, rowOf, restingOf, rested}
+use Rattle.book.specs.BestLaws.{OwnRow, resting-counted}
 use Rattle.entry.specs.Entry.{isCancel}
-use Rattle.checks.specs.TurnDown.{mightRest, noRoom, turnDowns, turnDown}
+use Rattle.checks.specs.TurnDown.{mightRest, turnDowns, turnDown}
+use Rattle.checks.specs.Words.{might-rest-says}
 use Rattle.judge.specs.Disposition.{dispositions, dispositionOf}
 use Rattle.lanes.specs.Rotation.{waits}
 use Rattle.lanes.specs.Runs.{FirstBusy}
@@ -24,9 +27,10 @@ use Rattle.session.specs.Sound.{Sound}
 use Rattle.session.specs.Turn.{TurnDone, Printed, refused as refusedBy, turnedDownBy, cancelledAs, acceptedAs, printed, fillsIn, quotesIn, standingOf, turnOf}
 use Rattle.demands.specs.Runs.{headEntry}
 use Rattle.demands.specs.InOrder.{NoneOf, GivenInOrder}
-use Rattle.demands.specs.InOrderLaws.{reads-itself, number-in-order, Comes, by-none, by-number, comes-in-order}
+use Rattle.demands.specs.InOrderLaws.{number-in-order, Comes, by-none, by-number, comes-in-order}
 use Rattle.demands.specs.TurnCases.{valuesOf, laneTold, lane-told, downBy, filledIn, disposed-less, fillsBy, tradeDone, CancelOf, cancels, no-such, OrderOf, turned-down, rests, trades, OutcomeOf, of-cancel, of-order, first-busy, ServedAs, served-set, served-outcome, served-leaves, named, Outcome, refused, taken, outcome}
 use Rattle.demands.specs.Demand2.{turnPrinted, turnFills, OrderAccepted, TakenBy, turnDownRules, judged, dispositionRules, onceTraded, RestsAs, AcceptedBy, TurnedDownInOrder}
+use Rattle.demands.specs.RulesProof.{turn-downs-read, dispositions-read}
 use Rattle.demands.specs.Demand2Refusals.{turn-taken}
 
 -- ---- the lane served
@@ -95,20 +99,21 @@ module _ (m : Market) (was : List ℕ) (t : ℕ) where
   unfolding turnDown
   down-in-order o =
       let cases = turnDowns (headEntry m t) (quotesIn m) (m .session .terms) (standingOf m t) in
-      comes-in-order cases (turnDownRules m t) refl (reads-itself cases) (down-comes o)
+      comes-in-order cases (turnDownRules m t) refl (turn-downs-read m t) (down-comes o)
 
 row-room-is : (m : Market) (lent t : ℕ) (was : List ℕ) → Sound m → TakenBy m lent t → isCancel (headEntry m t) ≡ false
     → (turnPrinted m lent was ≡ turnedDownBy t 17)
     ↔ (NoneOf (take 7 (turnDownRules m t)) × (mightRest (judged m t) ≡ true) × (restingOf (m .book) t ≡ 24))
-unfolding noRoom
 row-room-is m lent t was sound k new =
     let given = down-in-order m was t (new-comes m lent was t k new) .each 7 (omega arith) in
-    let most = sound (set-in m lent t k) .ready .book .room t (serves-first m lent t sound k .lane) in (
+    let most = sound (set-in m lent t k) .ready .book .room t (serves-first m lent t sound k .lane) in
+    let might = might-rest-says (judged m t) (quotesIn m) (m .session .terms) (standingOf m t) in (
       λ x.
-          let (none, full) = given .0 x in
-          let (might, many) = and-true (mightRest (judged m t)) _ full in
-          (none, might, omega (arith, leb-true 24 (restingOf (m .book) t) many)),
-      λ (none, might, all). given .1 (none, and-holds (mightRest (judged m t)) _ might (le-leb 24 (restingOf (m .book) t) (omega arith))),
+          let (none, (limit, day, (n, counted, many))) = given .0 x in
+          (none, might .1 (limit, day), omega (arith, one-count (OwnRow (m .book) t) (resting-counted (m .book) t) counted)),
+      λ (none, resting, all).
+          let (limit, day) = might .0 resting in
+          given .1 (none, (limit, day, (restingOf (m .book) t, resting-counted (m .book) t, omega arith))),
     )
 
 -- ---- cancels
@@ -244,7 +249,7 @@ module _ (m : Market) (lent : ℕ) (was : List ℕ) (t number filled disposition
   disposed-in-order opened =
       let left = judged m t .size .0 - filled in
       let cases = dispositions (judged m t) (quotesIn m) (m .session .terms) (contracts left) in
-      number-in-order 1 cases (dispositionRules m t left) refl (reads-itself cases) (accepted-traded opened .disposition-is)
+      number-in-order 1 cases (dispositionRules m t left) refl (dispositions-read m t left) (accepted-traded opened .disposition-is)
 
 pub turned-down-in-order : TurnedDownInOrder
 turned-down-in-order = record {

@@ -1,11 +1,9 @@
 -- Numbers given in order: each exactly in its case, the first that applies.
 use mathlib.Core.Path.{_≡_}
 use mathlib.Core.Logic.{_↔_, _⊎_}
-use mathlib.Core.Bool.{true}
 use mathlib.Core.List.{List, [], _∷_}
 use Prim.Native.Nat.{ℕ, zero, suc, _<_}
 use lib.ListN.{length, take}
-use Rattle.units.specs.Cases.{Case}
 
 -- a number and the case in which it is given
 pub record Rule : Type 1 where
@@ -26,11 +24,6 @@ ruleAt (r ∷ rs) (suc i) = ruleAt rs i
 abbrev pub NoneOf : List Rule → Type 0
 NoneOf [] = Unit
 NoneOf (r ∷ rs) = (r .case → ⊥) × NoneOf rs
-
--- tests as rules: a case is that its test holds
-abbrev pub ruled : List Case → List Rule
-ruled [] = []
-ruled (c ∷ cs) = (c .number if c .test ≡ true) ∷ ruled cs
 
 -- Each number is given exactly in its case, in order: where its own case holds and none before it. What is otherwise is
 -- so exactly where no case holds; and no other number is given.

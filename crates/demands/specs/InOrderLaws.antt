@@ -12,7 +12,7 @@ use borrow.Author.Tests.{eqb-false, not-true}
 use Rattle.units.specs.Tests.{isNot, pick, and-true, and-holds, not-holds, not-fails, fails, holds-not-fails}
 use Rattle.units.specs.Cases.{Case, firstOf}
 use Rattle.units.specs.CaseLaws.{caseAt, none, foreign, apart, given, given-none, none-at}
-use Rattle.demands.specs.InOrder.{Rule, ruleAt, NoneOf, ruled, GivenInOrder}
+use Rattle.demands.specs.InOrder.{Rule, ruleAt, NoneOf, GivenInOrder}
 
 -- the tests are those of the rules, one by one: the same numbers, and each test holds exactly in its rule's case
 abbrev pub Reads : List Case → List Rule → Type 0
@@ -20,11 +20,6 @@ Reads [] [] = Unit
 Reads [] (r ∷ rs) = ⊥
 Reads (c ∷ cs) [] = ⊥
 Reads (c ∷ cs) (r ∷ rs) = (c .number ≡ r .number) × ((c .test ≡ true) ↔ r .case) × Reads cs rs
-
--- tests as rules are their own
-pub reads-itself : (cs : List Case) → Reads cs (ruled cs)
-reads-itself [] = tt
-reads-itself (c ∷ cs) = (refl, (λ h. h, λ h. h), reads-itself cs)
 
 reads-take : (cs : List Case) (rs : List Rule) (i : ℕ) → Reads cs rs → Reads (take i cs) (take i rs)
 reads-take cs rs zero r = tt

@@ -6,6 +6,8 @@ pub mod Runs
 pub mod RunLaws
 pub mod InOrder
 pub mod InOrderLaws
+pub mod Rules
+pub mod RulesProof
 pub mod Demand2
 pub mod Demand2Rows
 pub mod Demand2Whole

@@ -6,3 +6,4 @@ pub mod Quotes
 pub mod NumberLaws
 pub mod SettingsLaws
 pub mod EntryLaws
+pub mod QuoteLaws

@@ -27,11 +27,11 @@ use Rattle.judge.specs.Disposition.{dispositionOf}
 use Rattle.judge.specs.DispositionLaws.{rests-day-limit, within-drill-buy, within-drill-sell, short-of-offer, short-of-bid}
 
 module _ (e : Entry) (q : Quotes) (t : Terms) where
-  buy-is : isBuy e ≡ true → boundOf e q t .0 ≡ leastOf highest (buyBars e q t)
+  pub buy-is : isBuy e ≡ true → boundOf e q t .0 ≡ leastOf highest (buyBars e q t)
   unfolding boundOf buyBound
   buy-is h = pick-yes _ _ h
 
-  sell-is : isSell e ≡ true → boundOf e q t .0 ≡ greatestOf 1 (sellBars e q t)
+  pub sell-is : isSell e ≡ true → boundOf e q t .0 ≡ greatestOf 1 (sellBars e q t)
   unfolding boundOf sellBound
   sell-is h = let k = eqb-true (e .side) 2 h in pick-no _ _ (ne-eqb (e .side) 1 (λ f. omega arith))
 

@@ -4,5 +4,6 @@ pub mod Disposition
 pub mod Verdict
 pub mod DispositionLaws
 pub mod BoundLaws
+pub mod Words
 pub mod VerdictLaws
 pub mod Examples

@@ -3,4 +3,5 @@ pub mod Amounts
 pub mod AmountLaws
 pub mod Price
 pub mod PriceLaws
+pub mod Words
 pub mod Examples
