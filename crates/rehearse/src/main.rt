@@ -69,7 +69,7 @@ fn tallies_asked() -> bool {
     same(&first[..length], b"--tallies")
 }
 
-// Prints the tallies where they are asked for, in an output that is written out.
+// Prints the tallies where they are asked for. The lines before them are written out, so they have the whole output.
 fn print_tallies(s: Session, out: &mut Output) -> u8
     requires { ⌜ length (now out) ≡ output ⌝ }
 {
