@@ -25,6 +25,8 @@ pub mod Demand3Proof
 pub mod Tallies
 pub mod Told
 pub mod TalliesProof
+pub mod TalliesRead
+pub mod TalliesReadProof
 pub mod Instances
 pub mod Demand2Refusals
 pub mod Demand2Stores

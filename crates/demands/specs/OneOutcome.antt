@@ -76,6 +76,7 @@ use Rattle.lines.proofs.line.fill_line.Reads as lines-fill-line
 use Rattle.lines.proofs.line.gone_line.Reads as lines-gone-line
 use Rattle.lines.proofs.line.tape_line.Reads as lines-tape-line
 use Rattle.lines.proofs.line.end_line.Reads as lines-end-line
+use Rattle.lines.proofs.line.tally_line.Reads as lines-tally-line
 use Rattle.lines.proofs.gone.gone.Reads as lines-gone
 use Rattle.lines.proofs.gone.next_gone.Reads as lines-next-gone
 use Rattle.tape.proofs.events.event.Reads as tape-event
@@ -142,6 +143,8 @@ use Rattle.session.proofs.Session.new.Reads as session-new
 use Rattle.session.proofs.turn.turn_core.Reads as session-turn
 use Rattle.session.proofs.open.open_core.Reads as session-open
 use Rattle.session.proofs.away.away.Reads as session-away
+use Rattle.session.proofs.reading.tally_of.Reads as session-tally-of
+use Rattle.replay.proofs.tallying.tally_lines.Reads as replay-tally-lines
 use Rattle.window.proofs.is_short.Reads as window-is-short
 
 -- the result is the same
@@ -286,6 +289,9 @@ one-lines-tape-line κs a z z′ e e′ = laid
 
 pub one-lines-end-line : OneOutcome lines-end-line.Post first
 one-lines-end-line κs a z z′ e e′ = laid
+
+pub one-lines-tally-line : OneOutcome lines-tally-line.Post first
+one-lines-tally-line κs a z z′ e e′ = laid
 
 -- the column of orders gone
 pub one-lines-gone : OneOutcome lines-gone.Post (λ e. first (e .1 .1 .1 .1 .1))
@@ -582,6 +588,9 @@ one-session-open κs a z z′ e e′ p q =
     let one = same (p .0 []) (q .0 []) in
     (ap opened one, ap (λ (d : OpenDone). d .market .book .sizes ∷ d .records ∷ []) one)
 
+pub one-session-tally-of : OneResult session-tally-of.Post
+one-session-tally-of κs a z z′ e e′ = same
+
 -- ---- fills
 
 pub one-fills-turn-fills : OneResult fills-turn-fills.Post
@@ -703,6 +712,9 @@ one-replay-step κs a z z′ e e′ p q =
     let given = same (p .given-is) (q .given-is) in
     let out = same (p .laid .stored) (q .laid .stored) in
     (λ i. record { session = m i .session; at = at i; from = from i; status = status i }, λ i. given i ∷ columns (m i .book) (m i .entries ∷ out i ∷ []))
+
+pub one-replay-tally-lines : OneOutcome replay-tally-lines.Post (λ e. first (e .1))
+one-replay-tally-lines κs a z z′ e e′ = laid
 
 -- ---- window
 

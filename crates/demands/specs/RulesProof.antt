@@ -27,6 +27,7 @@ use Rattle.session.specs.Market.{Market}
 use Rattle.session.specs.Turn.{quotesIn, standingOf}
 use Rattle.demands.specs.Runs.{headEntry}
 use Rattle.demands.specs.InOrderLaws.{Reads}
+use Rattle.demands.specs.TurnCases.{quotes-away}
 use Rattle.demands.specs.Rules.{IsNBB, IsNBO, TwentyFourRest, judged, turnDownRules, dispositionRules, JudgedRight}
 
 module _ (m : Market) (t : ℕ) where
@@ -120,7 +121,7 @@ unfolding quotesOn quotesOf
 judged-right = record {
   nbb-is = λ m sound set. nbb-of (m .book) (m .session .next) (sound set .ready .book) (m .session .away .bid .0);
   nbo-is = λ m sound set. nbo-of (m .book) (m .session .next) (sound set .ready .book) (m .session .away .offer .0);
-  away-is = λ m. refl;
+  away-is = quotes-away;
   judged-as = λ m t. judged-says (headEntry m t) (quotesIn m) (m .session .terms) (standingOf m t);
   buy-bound = λ m t price. buy-bound-says (judged m t) (quotesIn m) (m .session .terms) price;
   sell-bound = λ m t price side least most. sell-bound-says (judged m t) (quotesIn m) (m .session .terms) price side least;

@@ -4,6 +4,7 @@ use mathlib.Core.List.{List, [], _∷_}
 use Rattle.lines.specs.Decimal.{spelled, decimal}
 use Rattle.lines.specs.Lines.{spaced, setLine, awayLine, submitLine, turnLine, refusedLine, openLine, fillLineOf, goneLine, tapeLine, endLine}
 use Rattle.lines.specs.Gone.{filledOf, goneOrder}
+use Rattle.lines.specs.Lines.{tallyLine}
 use Rattle.units.specs.Units.{cents, contracts}
 use Rattle.units.specs.Sums.{sumTo}
 use Rattle.units.specs.Picked.{same}
@@ -64,6 +65,11 @@ one-gone = refl
 pub bad-number : tapeLine 30 18446744073709551615 ≡ 116 ∷ 97 ∷ 112 ∷ 101 ∷ 32 ∷ 51 ∷ 48 ∷ 32 ∷ 49 ∷ 56 ∷ 52 ∷ 52 ∷ 54 ∷ 55 ∷ 52 ∷ 52 ∷ 48 ∷ 55 ∷ 51 ∷ 55 ∷ 48 ∷ 57 ∷ 53 ∷ 53 ∷ 49 ∷ 54 ∷ 49 ∷ 53 ∷ 10 ∷ []
 unfolding spaced decimal spelled
 bad-number = refl
+
+-- `tally 7 1 0 3`
+pub seller-done : tallyLine 7 1 0 3 ≡ 116 ∷ 97 ∷ 108 ∷ 108 ∷ 121 ∷ 32 ∷ 55 ∷ 32 ∷ 49 ∷ 32 ∷ 48 ∷ 32 ∷ 51 ∷ 10 ∷ []
+unfolding spaced decimal spelled
+seller-done = refl
 
 -- E11: #1 bought 4 of its 5 and is then cancelled; #3 sold its 4 and is filled whole; #2 and #4 trade nothing, and rest
 abbrev fills-of-e11 : List Fill

@@ -12,7 +12,8 @@ use Rattle.units.specs.Places.{at}
 abbrev pub output : ℕ
 output = 65536
 
--- no line is longer: `turn`, five numbers of ten digits, each after a space, and the newline
+-- no line of an event or of a tape's end is longer: `turn`, five numbers of ten digits, each after a space, and the
+-- newline
 abbrev pub longest : ℕ
 longest = 60
 
@@ -24,9 +25,13 @@ longestWord = 7
 abbrev pub longestNumber : ℕ
 longestNumber = 11
 
--- a space and at most twenty digits: a place in a tape of any length
+-- a space and at most twenty digits: a place in a tape of any length, or a count of a tally
 abbrev pub longestPlace : ℕ
 longestPlace = 21
+
+-- no line of a tally is longer: `tally`, a number of ten digits and three of twenty, each after a space, and the newline
+abbrev pub longestTally : ℕ
+longestTally = 80
 
 -- there is room for k bytes from the place `start` on
 pub record Room (lent : List ℕ) (start k : ℕ) : Type 0 where

@@ -58,3 +58,8 @@ tapeLine code place = letters "tape" ++ spaced code ++ spaced place ++ newline
 -- A tape that ends between events prints `end`.
 abbrev pub endLine : List ℕ
 endLine = letters "end" ++ newline
+
+-- `tally T TURNS BOUGHT SOLD`, where it is asked for: a tenant's turns taken, contracts bought and contracts sold
+abbrev pub tallyLine : ℕ → ℕ → ℕ → ℕ → List ℕ
+tallyLine tenant turns bought sold =
+    letters "tally" ++ spaced tenant ++ spaced turns ++ spaced bought ++ spaced sold ++ newline

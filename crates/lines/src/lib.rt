@@ -9,5 +9,6 @@ pub type Output = [u8; 65536];
 
 pub const OUTPUT: usize = 65536;
 
-// No line is longer: `turn`, five numbers of ten digits, each after a space, and the newline.
+// No line of an event or of a tape's end is longer: `turn`, five numbers of ten digits, each after a space, and the
+// newline.
 pub const LONGEST: usize = 60;

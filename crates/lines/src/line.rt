@@ -13,7 +13,8 @@ ghost use lib.ListN.{length};
 ghost use Rattle.lines.specs.Lines.{newline as Lines·newline, spaced};
 ghost use Rattle.lines.specs.Lines.{setLine, awayLine, submitLine, turnLine, refusedLine};
 ghost use Rattle.lines.specs.Lines.{openLine, fillLineOf, goneLine, tapeLine, endLine};
-ghost use Rattle.lines.specs.Laying.{longest, longestWord, Room, Laid};
+ghost use Rattle.lines.specs.Lines.{tallyLine};
+ghost use Rattle.lines.specs.Laying.{longest, longestTally, longestWord, Room, Laid};
 
 // A word and one number.
 fn named(out: &mut Output, at: usize, w: &[u8], n: u32) -> usize
@@ -130,4 +131,24 @@ pub fn end_line(out: &mut Output, at: usize) -> usize
     ensures { λ r. ⌜ Laid (now (out .entry)) at endLine longest (now (out .exit)) r ⌝ }
 {
     word(out, at, b"end\n")
+}
+
+// What a tenant has done: `tally T TURNS BOUGHT SOLD`.
+pub fn tally_line(
+    out: &mut Output,
+    at: usize,
+    tenant: u32,
+    turns: u64,
+    bought: u64,
+    sold: u64,
+) -> usize
+    requires { ⌜ Room (now out) at longestTally ⌝ }
+    ensures { λ r. ⌜ Laid (now (out .entry)) at (tallyLine tenant turns bought sold) longestTally (now (out .exit)) r ⌝ }
+{
+    let a = word(out, at, b"tally");
+    let b = number(out, a, tenant);
+    let c = long_number(out, b, turns);
+    let d = long_number(out, c, bought);
+    let e = long_number(out, d, sold);
+    newline(out, e)
 }

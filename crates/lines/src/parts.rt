@@ -38,7 +38,7 @@ fn digits(out: &mut Output, at: usize, n: u64) -> usize
     last + 1
 }
 
-// A place in a tape, after a space: at most twenty digits.
+// A place in a tape or a count of a tally, after a space: at most twenty digits.
 pub(crate) fn long_number(out: &mut Output, at: usize, n: u64) -> usize
     requires { ⌜ Room (now out) at longestPlace ⌝ }
     ensures { λ r. ⌜ Laid (now (out .entry)) at (spaced n) longestPlace (now (out .exit)) r ⌝ }

@@ -1,22 +1,27 @@
 // The program: replays a tape and prints what the market answers.
 //
-// The tape comes from the file that the first argument names, or from standard input. It is read through a window of 64
-// KiB and printed through an output of the same size, so a tape of any length takes the same memory. A program has no
-// exit status; how the replay ended is written as one byte to file descriptor 3, for the command above: `0` the tape
-// ended, `1` it was refused, `2` a file could not be opened, read or written.
+// The tape comes from the file that the first argument names, or from standard input. `--tallies` before the name asks
+// for the tallies, which are printed after every other line. The tape is read through a window of 64 KiB and printed
+// through an output of the same size, so a tape of any length takes the same memory. A program has no exit status; how
+// the replay ended is written as one byte to file descriptor 3, for the command above: `0` the tape ended, `1` it was
+// refused, `2` a file could not be opened, read or written.
 use entry::BULK_NUMBERS;
 use lanes::ALL_ENTRIES;
 use lines::OUTPUT;
+use lines::Output;
 use replay::LONGEST_EVENT;
 use replay::stepping::GOING;
 use replay::stepping::step;
+use replay::tallying::tally_lines;
 use session::Session;
 use tape::MOST_BYTES;
 use window::is_short;
 use window::refill;
 use window::writing::write_out;
+ghost use mathlib.Core.Path.{_≡_};
 ghost use Prim.Native.Nat.{_≤_};
 ghost use lib.ListN.{length};
+ghost use Rattle.lines.specs.Laying.{output};
 
 // Where the status goes.
 const STATUS_FILENO: i32 = 3;
@@ -43,13 +48,47 @@ fn flush(out: &[u8], at: usize) -> u8
     status_after(!write_out(libc::STDOUT_FILENO, &out[..at]))
 }
 
+fn same(a: &[u8], b: &[u8]) -> bool {
+    if a.len() != b.len() {
+        return false;
+    }
+    let mut i: usize = 0;
+    while i < a.len() {
+        if a[i] != b[i] {
+            return false;
+        }
+        i += 1;
+    }
+    true
+}
+
+// Whether the first argument asks for the tallies.
+fn tallies_asked() -> bool {
+    let mut first = io::buffer();
+    let length = os::arg(1, &mut first);
+    same(&first[..length], b"--tallies")
+}
+
+// Prints the tallies where they are asked for. The lines before them are written out, so they have the whole output.
+fn print_tallies(s: Session, out: &mut Output) -> u8
+    requires { ⌜ length (now out) ≡ output ⌝ }
+{
+    if tallies_asked() {
+        let end = tally_lines(s, out, 0);
+        flush(out, end)
+    } else {
+        GOING
+    }
+}
+
 // The tape's file, or a negative number where it cannot be opened.
 fn tape_file() -> i32 {
-    if os::arg_count() < 2 {
+    let named: usize = if tallies_asked() { 2 } else { 1 };
+    if os::arg_count() <= named {
         return libc::STDIN_FILENO;
     }
     let mut path = io::buffer();
-    let length = os::arg(1, &mut path);
+    let length = os::arg(named, &mut path);
     if os::errno() != 0 {
         os::fail(b"tape");
         return -1;
@@ -118,7 +157,7 @@ fn main() {
             status = done.status;
         }
     }
-    if flush(&out, at) == GOING {
+    if flush(&out, at) == GOING && status != FAILED && print_tallies(s, &mut out) == GOING {
         tell(status);
     } else {
         tell(FAILED);

@@ -1,7 +1,8 @@
-// One event of a tape, run on the market and printed.
+// One event of a tape, run on the market and printed; and the tallies printed.
 pub mod events;
 mod listing;
 pub mod stepping;
+pub mod tallying;
 
 use lines::LONGEST;
 use rows::ROWS;

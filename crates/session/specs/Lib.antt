@@ -1,5 +1,5 @@
--- What the session promises: the five calls of document 01 as definitions over one market. Files whose names end in
--- Laws prove; the others state.
+-- What the session promises: the five calls of document 01 as definitions over one market, and the reading of a tally.
+-- Files whose names end in Laws prove; the others state.
 pub mod Market
 pub mod Sound
 pub mod Settings
@@ -15,3 +15,5 @@ pub mod TurnLaws
 pub mod Open
 pub mod OpenLaws
 pub mod OpenSoundLaws
+pub mod Reading
+pub mod ReadingLaws

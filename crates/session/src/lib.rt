@@ -1,6 +1,8 @@
-// The session: settings, away quote, book, lanes, rotation and tallies of one option series, and the five calls on it.
+// The session: settings, away quote, book, lanes, rotation and tallies of one option series, the five calls on it, and
+// the reading of its tallies.
 pub mod away;
 pub mod open;
+pub mod reading;
 pub mod settings;
 pub mod submit;
 pub mod turn;
@@ -11,6 +13,7 @@ use entry::Away;
 use entry::Terms;
 use lanes::Lanes;
 use tally::Tallies;
+use tally::Tally;
 use units::Cents;
 use units::Contracts;
 use units::grid::Grid;
@@ -111,4 +114,10 @@ pub enum OpenAnswer {
 pub struct Opened {
     pub session: Session,
     pub answer: OpenAnswer,
+}
+
+// What the reading of a tally answers: refused by a number; or the tally of the tenant.
+pub enum Tallied {
+    Refused(u32),
+    Of(Tally),
 }

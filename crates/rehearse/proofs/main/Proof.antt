@@ -66,6 +66,7 @@ main-spec =
     (λ c. steps (c .before .before .before .before .before .before .before .before .before .before .before .before .before .before .before .before .before .loop .inv) (c .before .before .before .before .before .before .before .before .before .before .before .before .before .before .before .before .loop-test .taken) (c .before .before .before .before .before .before .before .before .before .before .before .before .if4 .left) (c .before .before .step .ensures) (c .before .given2 .given))
     (λ c. sym (c .before .before .loop .inv .out-long))
     (λ c κs. let r = c .before .before .loop .inv in omega (arith, r .printed, r .out-long))
+    (λ c κs. c .before .before .before .before .before .before .loop .inv .out-long)
     (λ c κs. search needs)
     (λ c κs. search needs)
     (λ c. search needs)
