@@ -15,13 +15,13 @@ module _ (t : Portions) (size rank : ℕ) where
   unfolding shareAt
   share-free z = simp (le-ltb 0 size (omega arith))
 
-  pub share-is : 0 < size → shareAt t size rank ≡ wholeOf (t .left) size (t .total) + keep (ltb rank (t .spare)) 1
+  pub share-is : 0 < size → shareAt t size rank ≡ wholeOf (t .left .0) size (t .total .0) + keep (ltb rank (t .spare .0)) 1
   unfolding shareAt
   share-is x = simp (lt-ltb 0 size x)
 
   -- nothing was left over
-  pub share-spent : 0 < size → t .spare ≡ 0 → shareAt t size rank ≡ wholeOf (t .left) size (t .total)
-  share-spent x z = share-is x ∙ rw (le-ltb rank (t .spare) (omega arith)) (add-zero _)
+  pub share-spent : 0 < size → t .spare .0 ≡ 0 → shareAt t size rank ≡ wholeOf (t .left .0) size (t .total .0)
+  share-spent x z = share-is x ∙ rw (le-ltb rank (t .spare .0) (omega arith)) (add-zero _)
 
 module _ (k m size here : ℕ) where
   pub edge-before : k < m → toEdge k m size here ≡ size

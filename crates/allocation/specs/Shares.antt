@@ -2,6 +2,7 @@
 use mathlib.Core.Bool.{cond}
 use Prim.Native.Nat.{ℕ, _+_, _-_, min}
 use lib.Dec.{ltb}
+use Rattle.units.specs.Units.{total}
 use Rattle.units.specs.Sums.{sumTo}
 use Rattle.units.specs.Picked.{keep, same}
 use Rattle.levels.specs.Levels.{wholeOf, wholes, larger}
@@ -19,20 +20,20 @@ timeShare m n last k size i = toEdge k m size (toEdge i n size (min size last))
 
 -- so for each row
 abbrev pub timeShares : Edge → Edge → (ℕ → ℕ) → (ℕ → ℕ) → (ℕ → ℕ) → ℕ → ℕ
-timeShares m line key size number i = timeShare (m .key) (line .key) (line .left) (key i) (size i) (number i)
+timeShares m line key size number i = timeShare (m .key) (line .key) (line .left .0) (key i) (size i) (number i)
 
 -- In proportion: what rests at the edge among n rows, and what the whole parts of its shares leave over.
 unfoldable pub portionsAt : ℕ → (ℕ → ℕ) → (ℕ → ℕ) → Edge → Portions
 portionsAt n key size m = record {
   key = m .key;
   left = m .left;
-  total = sumTo (same key (m .key) size) n;
-  spare = m .left - sumTo (same key (m .key) (wholes (m .left) (sumTo (same key (m .key) size) n) size)) n;
+  total = total (sumTo (same key (m .key) size) n);
+  spare = total (m .left .0 - sumTo (same key (m .key) (wholes (m .left .0) (sumTo (same key (m .key) size) n) size)) n);
 }
 
 -- At the edge a row of the given rank has the whole part of its share, and one more if what is left over reaches it.
 unfoldable pub shareAt : Portions → ℕ → ℕ → ℕ
-shareAt t size rank = keep (ltb 0 size) (wholeOf (t .left) size (t .total) + keep (ltb rank (t .spare)) 1)
+shareAt t size rank = keep (ltb 0 size) (wholeOf (t .left .0) size (t .total .0) + keep (ltb rank (t .spare .0)) 1)
 
 -- and elsewhere all or nothing
 unfoldable pub proportionShare : Portions → ℕ → ℕ → ℕ → ℕ

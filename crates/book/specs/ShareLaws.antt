@@ -38,17 +38,17 @@ module _ (r : Resting) (q : ℕ) (d : Distinct r) (i : ℕ) (p : i < r .places) 
     ])
   ]
 
-  module _ (m : Edge) (reach : AtEdge places key size q (m .key) (m .left)) where
-    pub time-share-is : (line : Edge) → AtEdge places number (same key (m .key) size) (m .left) (line .key) (line .left)
-        → timeShare (m .key) (line .key) (line .left) (key i) (size i) (number i) ≡ fill r q time i
+  module _ (m : Edge) (reach : AtEdge places key size q (m .key) (m .left .0)) where
+    pub time-share-is : (line : Edge) → AtEdge places number (same key (m .key) size) (m .left .0) (line .key) (line .left .0)
+        → timeShare (m .key) (line .key) (line .left .0) (key i) (size i) (number i) ≡ fill r q time i
     unfolding timeShare
     time-share-is line turn =
-        let last = min (size i) (line .left) in
-        by-edge (m .key) (m .left) (toEdge (number i) (line .key) (size i) last) time reach (λ e. elim (order (number i) (line .key)) [
-          | less l ↦ edge-before (number i) (line .key) (size i) last l ∙ sym (fill-earlier r q (m .key) (m .left) reach (line .key) (line .left) turn i p e l)
-          | equal l ↦ edge-at (number i) (line .key) (size i) last l ∙ sym (fill-last r q (m .key) (m .left) reach (line .key) (line .left) turn i p e l)
+        let last = min (size i) (line .left .0) in
+        by-edge (m .key) (m .left .0) (toEdge (number i) (line .key) (size i) last) time reach (λ e. elim (order (number i) (line .key)) [
+          | less l ↦ edge-before (number i) (line .key) (size i) last l ∙ sym (fill-earlier r q (m .key) (m .left .0) reach (line .key) (line .left .0) turn i p e l)
+          | equal l ↦ edge-at (number i) (line .key) (size i) last l ∙ sym (fill-last r q (m .key) (m .left .0) reach (line .key) (line .left .0) turn i p e l)
           | more l ↦ edge-beyond (number i) (line .key) (size i) last l ∙ sym (elim (order 0 (size i)) [
-            | less x ↦ fill-later r q (m .key) (m .left) reach (line .key) (line .left) turn i p e x l
+            | less x ↦ fill-later r q (m .key) (m .left .0) reach (line .key) (line .left .0) turn i p e x l
             | equal x ↦ fill-free r q time i (sym x)
             | more x ↦ omega arith
           ])
@@ -57,8 +57,8 @@ module _ (r : Resting) (q : ℕ) (d : Distinct r) (i : ℕ) (p : i < r .places) 
     pub proportion-share-is : proportionShare (portionsAt places key size m) (key i) (size i) (sumTo (larger key size number (m .key) (size i) (number i)) places)
         ≡ fill r q proportion i
     unfolding proportionShare portionsAt
-    proportion-share-is = by-edge (m .key) (m .left) _ proportion reach (λ e. elim (order 0 (size i)) [
-      | less x ↦ share-is _ (size i) _ x ∙ sym (rw (rank-is, e) at (fill-in-proportion r q (m .key) (m .left) reach i p x e))
+    proportion-share-is = by-edge (m .key) (m .left .0) _ proportion reach (λ e. elim (order 0 (size i)) [
+      | less x ↦ share-is _ (size i) _ x ∙ sym (rw (rank-is, e) at (fill-in-proportion r q (m .key) (m .left .0) reach i p x e))
       | equal x ↦ share-free _ (size i) _ (sym x) ∙ sym (fill-free r q proportion i (sym x))
       | more x ↦ omega arith
     ])
@@ -68,9 +68,9 @@ module _ (side bound q allocation : ℕ) (sides prices sizes numbers : List ℕ)
   abbrev rs : Resting
   rs = reach (bookOf sides prices sizes [] numbers) side bound
 
-  module _ (edge : AtEdge rows (rs .key) (rs .size) q (m .key) (m .left)) where
-    pub shares-by-time : (line : Edge) → AtEdge rows (at numbers) (same (rs .key) (m .key) (rs .size)) (m .left) (line .key) (line .left) → allocation ≡ 1
-        → table (λ i. timeShare (m .key) (line .key) (line .left) (rs .key i) (rs .size i) (at numbers i)) rows ≡ table (fill rs q (classOf allocation)) rows
+  module _ (edge : AtEdge rows (rs .key) (rs .size) q (m .key) (m .left .0)) where
+    pub shares-by-time : (line : Edge) → AtEdge rows (at numbers) (same (rs .key) (m .key) (rs .size)) (m .left .0) (line .key) (line .left .0) → allocation ≡ 1
+        → table (λ i. timeShare (m .key) (line .key) (line .left .0) (rs .key i) (rs .size i) (at numbers i)) rows ≡ table (fill rs q (classOf allocation)) rows
     unfolding classOf
     shares-by-time line turn e = simp (eq-eqb allocation 1 e)
         (table-same rows (λ i p. time-share-is rs q (open-apart side bound sides prices sizes numbers apart) i p m edge line turn))

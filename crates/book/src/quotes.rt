@@ -13,7 +13,7 @@ ghost use Rattle.book.specs.Lent.{quoting};
 pub fn best_bid(sides: &Column, prices: &Column, sizes: &Column) -> Cents
     ensures { λ r. ⌜ quoting sides prices sizes (λ b. r ≡ cents (bestBid b)) ⌝ }
 {
-    Cents(highest_buy(sides, prices, sizes))
+    highest_buy(sides, prices, sizes)
 }
 
 // The best offer, 0 where there is none.
@@ -21,7 +21,7 @@ pub fn best_offer(sides: &Column, prices: &Column, sizes: &Column) -> Cents
     ensures { λ r. ⌜ quoting sides prices sizes (λ b. r ≡ cents (bestOffer b)) ⌝ }
 {
     let low = lowest_sell(sides, prices, sizes);
-    if low <= HIGHEST { Cents(low) } else { Cents(0) }
+    if low.0 <= HIGHEST { low } else { Cents(0) }
 }
 
 // Whether some resting buy is at or above some resting sell.
@@ -29,6 +29,6 @@ pub fn crosses(sides: &Column, prices: &Column, sizes: &Column) -> bool
     ensures { λ r. ⌜ quoting sides prices sizes (λ b. r ≡ crosses b) ⌝ }
 {
     let low = lowest_sell(sides, prices, sizes);
-    let high = highest_buy(sides, prices, sizes);
-    low <= high
+    let high = best_bid(sides, prices, sizes);
+    low.0 <= high.0
 }

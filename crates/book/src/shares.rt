@@ -5,6 +5,9 @@ use allocation::shares::by_time;
 use allocation::shares::in_proportion;
 use allocation::shares::sharing;
 use rows::Column;
+use units::Cents;
+use units::Contracts;
+use units::Total;
 ghost use mathlib.Core.Path.{_≡_};
 ghost use Rattle.units.specs.Places.{at, table};
 ghost use Rattle.rows.specs.Rows.{rows};
@@ -21,17 +24,17 @@ pub const TIME: u32 = 1;
 pub fn shares(
     allocation: u32,
     side: u32,
-    bound: u32,
-    q: u32,
-    all: u64,
+    bound: Cents,
+    q: Contracts,
+    all: Total,
     sides: &Column,
     prices: &Column,
     sizes: &Column,
     numbers: &Column,
 ) -> Column
     requires { ⌜ Fit (now prices) (now sizes) (now numbers) ⌝ }
-    requires { ⌜ all ≡ restingWithin rows (at (now sides)) (at (now prices)) (at (now sizes)) side bound ⌝ }
-    ensures { λ r. ⌜ r ≡ table (fill (reach (ownerless sides prices sizes numbers) side bound) q (classOf allocation)) rows ⌝ }
+    requires { ⌜ all .0 ≡ restingWithin rows (at (now sides)) (at (now prices)) (at (now sizes)) side (bound .0) ⌝ }
+    ensures { λ r. ⌜ r ≡ table (fill (reach (ownerless sides prices sizes numbers) side (bound .0)) (q .0) (classOf allocation)) rows ⌝ }
 {
     let m = edge_of(side, bound, q, all, sides, prices, sizes);
     if allocation == TIME {

@@ -10,6 +10,7 @@ use rows::row::lesser_wide;
 use rows::row::wide;
 use units::Cents;
 use units::Contracts;
+use units::Total;
 ghost use mathlib.Core.Path.{_≡_};
 ghost use Prim.Native.Nat.{_*_, _-_, min};
 ghost use lib.ListN.{length};
@@ -40,10 +41,10 @@ pub fn remove(quantities: &Column, sizes: &mut Column)
 }
 
 // The lesser of an order's size and all that may be traded.
-fn fillable(q: u32, all: u64) -> u32
-    ensures { λ r. ⌜ r ≡ min q all ⌝ }
+fn fillable(q: Contracts, all: Total) -> Contracts
+    ensures { λ r. ⌜ r .0 ≡ min (q .0) (all .0) ⌝ }
 {
-    lesser_wide(wide(q), all) as u32
+    Contracts(lesser_wide(wide(q.0), all.0) as u32)
 }
 
 // An order trades with the rows of one side within its bound, best price first, by the class; what each row trades and
@@ -68,8 +69,8 @@ pub fn trade(
     ensures { λ _. ⌜ now (shared .exit) ≡ table (traded (before sides prices sizes owners numbers) side (bound .0) (q .0) allocation) rows ⌝ }
     ensures { λ r. ⌜ r ≡ tradedOf (before sides prices sizes owners numbers) side (bound .0) (q .0) allocation ⌝ }
 {
-    let all = resting_within(side, bound.0, sides, prices, sizes);
-    if all == 0 {
+    let all = resting_within(side, bound, sides, prices, sizes);
+    if all.0 == 0 {
         *shared = [0u32; 216];
         return Traded {
             filled: Contracts(0),
@@ -79,8 +80,8 @@ pub fn trade(
     let quantities = shares(
         allocation,
         side,
-        bound.0,
-        q.0,
+        bound,
+        q,
         all,
         sides,
         prices,
@@ -91,7 +92,7 @@ pub fn trade(
     let fills = record(prices, sides, prices, shared, owners, numbers, lent);
     remove(shared, sizes);
     Traded {
-        filled: Contracts(fillable(q.0, all)),
+        filled: fillable(q, all),
         fills: fills,
     }
 }

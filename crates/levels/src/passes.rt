@@ -11,6 +11,9 @@ use rows::row::key;
 use rows::row::lesser_wide;
 use rows::row::open_size;
 use rows::row::wide;
+use units::Cents;
+use units::Contracts;
+use units::Total;
 ghost use mathlib.Core.Path.{_≡_};
 ghost use lib.Dec.{eqb};
 ghost use Rattle.units.specs.Sums.{sumTo};
@@ -21,16 +24,30 @@ ghost use Rattle.levels.specs.Levels.{tradableAt, candidate, bestFrom, w
 ghost use Rattle.levels.specs.Lent.{keysIn, opensIn, levelIn, rankIn};
 
 // A row's key, if something of it may be traded and it is not below the floor; else past every key.
-fn key_from(side: u32, bound: u32, floor: u64, row_side: u32, price: u32, size: u32) -> u64
-    ensures { λ r. ⌜ r ≡ candidate noPrice floor (keyOf side price) (openSize side bound «row_side» price size) ⌝ }
+fn key_from(
+    side: u32,
+    bound: Cents,
+    floor: u64,
+    row_side: u32,
+    price: Cents,
+    size: Contracts,
+) -> u64
+    ensures { λ r. ⌜ r ≡ candidate noPrice floor (keyOf side (price .0)) (openSize side (bound .0) «row_side» (price .0) (size .0)) ⌝ }
 {
     let tradable = open_size(side, bound, row_side, price, size);
     candidate(NO_KEY, floor, wide(key(side, price)), tradable)
 }
 
 // What may be traded of a row, if it stands at key c.
-fn tradable_at(side: u32, bound: u32, c: u64, row_side: u32, price: u32, size: u32) -> u32
-    ensures { λ r. ⌜ r ≡ tradableAt side bound c «row_side» price size ⌝ }
+fn tradable_at(
+    side: u32,
+    bound: Cents,
+    c: u64,
+    row_side: u32,
+    price: Cents,
+    size: Contracts,
+) -> Contracts
+    ensures { λ r. ⌜ r .0 ≡ tradableAt side (bound .0) c «row_side» (price .0) (size .0) ⌝ }
 {
     held_at(
         wide(key(side, price)),
@@ -43,15 +60,15 @@ fn tradable_at(side: u32, bound: u32, c: u64, row_side: u32, price: u32, size: u
 // number.
 fn number_from(
     side: u32,
-    bound: u32,
+    bound: Cents,
     c: u64,
     floor: u64,
     row_side: u32,
-    price: u32,
-    size: u32,
+    price: Cents,
+    size: Contracts,
     number: u32,
 ) -> u64
-    ensures { λ r. ⌜ r ≡ candidate noNumber floor number (tradableAt side bound c «row_side» price size) ⌝ }
+    ensures { λ r. ⌜ r ≡ candidate noNumber floor number (tradableAt side (bound .0) c «row_side» (price .0) (size .0)) ⌝ }
 {
     let tradable = tradable_at(side, bound, c, row_side, price, size);
     candidate(NO_NUMBER, floor, wide(number), tradable)
@@ -60,15 +77,15 @@ fn number_from(
 // What may be traded of a row, if it stands at key c and is order n.
 fn open_of(
     side: u32,
-    bound: u32,
+    bound: Cents,
     c: u64,
     n: u64,
     row_side: u32,
-    price: u32,
-    size: u32,
+    price: Cents,
+    size: Contracts,
     number: u32,
-) -> u32
-    ensures { λ r. ⌜ r ≡ keep (eqb number n) (tradableAt side bound c «row_side» price size) ⌝ }
+) -> Contracts
+    ensures { λ r. ⌜ r .0 ≡ keep (eqb number n) (tradableAt side (bound .0) c «row_side» (price .0) (size .0)) ⌝ }
 {
     let tradable = tradable_at(side, bound, c, row_side, price, size);
     held_at(wide(number), tradable, n)
@@ -77,16 +94,16 @@ fn open_of(
 // 1 for a row at key c that is served before one of size s and number n: it is larger, or of that size and earlier.
 fn first_over(
     side: u32,
-    bound: u32,
+    bound: Cents,
     c: u64,
-    s: u32,
+    s: Contracts,
     n: u32,
     row_side: u32,
-    price: u32,
-    size: u32,
+    price: Cents,
+    size: Contracts,
     number: u32,
 ) -> u32
-    ensures { λ r. ⌜ r ≡ largerOf (keyOf side price) (openSize side bound «row_side» price size) number c s n ⌝ }
+    ensures { λ r. ⌜ r ≡ largerOf (keyOf side (price .0)) (openSize side (bound .0) «row_side» (price .0) (size .0)) number c (s .0) n ⌝ }
 {
     let tradable = open_size(side, bound, row_side, price, size);
     larger(wide(key(side, price)), tradable, number, c, s, n)
@@ -95,15 +112,15 @@ fn first_over(
 // The whole part of a row's share of what is left, if it stands at key c.
 fn whole_at(
     side: u32,
-    bound: u32,
+    bound: Cents,
     c: u64,
-    left: u32,
-    total: u64,
+    left: Contracts,
+    total: Total,
     row_side: u32,
-    price: u32,
-    size: u32,
-) -> u32
-    ensures { λ r. ⌜ r ≡ keep (eqb (keyOf side price) c) (wholeOf left (openSize side bound «row_side» price size) total) ⌝ }
+    price: Cents,
+    size: Contracts,
+) -> Contracts
+    ensures { λ r. ⌜ r .0 ≡ keep (eqb (keyOf side (price .0)) c) (wholeOf (left .0) (openSize side (bound .0) «row_side» (price .0) (size .0)) (total .0)) ⌝ }
 {
     let tradable = open_size(side, bound, row_side, price, size);
     held_at(wide(key(side, price)), whole(left, tradable, total), c)
@@ -112,20 +129,27 @@ fn whole_at(
 // The best key from the floor on at which something may be traded; past every key where nothing may.
 pub fn best_from(
     side: u32,
-    bound: u32,
+    bound: Cents,
     floor: u64,
     sides: &Column,
     prices: &Column,
     sizes: &Column,
 ) -> u64
-    ensures { λ r. ⌜ r ≡ bestFrom rows noPrice (keysIn side prices) (opensIn side bound sides prices sizes) floor ⌝ }
+    ensures { λ r. ⌜ r ≡ bestFrom rows noPrice (keysIn side prices) (opensIn side (bound .0) sides prices sizes) floor ⌝ }
 {
     let mut least: u64 = NO_KEY;
     let mut i: usize = 0;
     while i < ROWS {
         least = lesser_wide(
             least,
-            key_from(side, bound, floor, sides[i], prices[i], sizes[i]),
+            key_from(
+                side,
+                bound,
+                floor,
+                sides[i],
+                Cents(prices[i]),
+                Contracts(sizes[i]),
+            ),
         );
         i += 1;
     }
@@ -133,22 +157,37 @@ pub fn best_from(
 }
 
 // What may be traded at key c.
-pub fn level(side: u32, bound: u32, c: u64, sides: &Column, prices: &Column, sizes: &Column) -> u64
-    ensures { λ r. ⌜ r ≡ sumTo (levelIn side bound c sides prices sizes) rows ⌝ }
+pub fn level(
+    side: u32,
+    bound: Cents,
+    c: u64,
+    sides: &Column,
+    prices: &Column,
+    sizes: &Column,
+) -> Total
+    ensures { λ r. ⌜ r .0 ≡ sumTo (levelIn side (bound .0) c sides prices sizes) rows ⌝ }
 {
     let mut sum: u64 = 0;
     let mut i: usize = 0;
     while i < ROWS {
-        sum += wide(tradable_at(side, bound, c, sides[i], prices[i], sizes[i]));
+        let tradable = tradable_at(
+            side,
+            bound,
+            c,
+            sides[i],
+            Cents(prices[i]),
+            Contracts(sizes[i]),
+        );
+        sum += wide(tradable.0);
         i += 1;
     }
-    sum
+    Total(sum)
 }
 
 // The lowest order number from the floor on that may be traded at key c; past every number where there is none.
 pub fn next_from(
     side: u32,
-    bound: u32,
+    bound: Cents,
     c: u64,
     floor: u64,
     sides: &Column,
@@ -156,7 +195,7 @@ pub fn next_from(
     sizes: &Column,
     numbers: &Column,
 ) -> u64
-    ensures { λ r. ⌜ r ≡ bestFrom rows noNumber (found numbers) (levelIn side bound c sides prices sizes) floor ⌝ }
+    ensures { λ r. ⌜ r ≡ bestFrom rows noNumber (found numbers) (levelIn side (bound .0) c sides prices sizes) floor ⌝ }
 {
     let mut least: u64 = NO_NUMBER;
     let mut i: usize = 0;
@@ -169,8 +208,8 @@ pub fn next_from(
                 c,
                 floor,
                 sides[i],
-                prices[i],
-                sizes[i],
+                Cents(prices[i]),
+                Contracts(sizes[i]),
                 numbers[i],
             ),
         );
@@ -182,60 +221,80 @@ pub fn next_from(
 // What may be traded at key c of order n.
 pub fn held_by(
     side: u32,
-    bound: u32,
+    bound: Cents,
     c: u64,
     n: u64,
     sides: &Column,
     prices: &Column,
     sizes: &Column,
     numbers: &Column,
-) -> u64
-    ensures { λ r. ⌜ r ≡ sumTo (same (found numbers) n (levelIn side bound c sides prices sizes)) rows ⌝ }
+) -> Total
+    ensures { λ r. ⌜ r .0 ≡ sumTo (same (found numbers) n (levelIn side (bound .0) c sides prices sizes)) rows ⌝ }
 {
     let mut sum: u64 = 0;
     let mut i: usize = 0;
     while i < ROWS {
-        sum += wide(open_of(side, bound, c, n, sides[i], prices[i], sizes[i], numbers[i]));
+        let tradable = open_of(
+            side,
+            bound,
+            c,
+            n,
+            sides[i],
+            Cents(prices[i]),
+            Contracts(sizes[i]),
+            numbers[i],
+        );
+        sum += wide(tradable.0);
         i += 1;
     }
-    sum
+    Total(sum)
 }
 
 // The whole parts of the shares at key c.
 pub fn whole_parts(
     side: u32,
-    bound: u32,
+    bound: Cents,
     c: u64,
-    left: u32,
-    total: u64,
+    left: Contracts,
+    total: Total,
     sides: &Column,
     prices: &Column,
     sizes: &Column,
-) -> u64
-    ensures { λ r. ⌜ r ≡ sumTo (same (keysIn side prices) c (wholes left total (opensIn side bound sides prices sizes))) rows ⌝ }
+) -> Total
+    ensures { λ r. ⌜ r .0 ≡ sumTo (same (keysIn side prices) c (wholes (left .0) (total .0) (opensIn side (bound .0) sides prices sizes))) rows ⌝ }
 {
     let mut sum: u64 = 0;
     let mut i: usize = 0;
     while i < ROWS {
-        sum += wide(whole_at(side, bound, c, left, total, sides[i], prices[i], sizes[i]));
+        let part = whole_at(
+            side,
+            bound,
+            c,
+            left,
+            total,
+            sides[i],
+            Cents(prices[i]),
+            Contracts(sizes[i]),
+        );
+        sum += wide(part.0);
         i += 1;
     }
-    sum
+    Total(sum)
 }
 
 // How many at key c are larger than s, or of size s and earlier than n.
 pub fn rank(
     side: u32,
-    bound: u32,
+    bound: Cents,
     c: u64,
-    s: u32,
+    s: Contracts,
     n: u32,
     sides: &Column,
     prices: &Column,
     sizes: &Column,
     numbers: &Column,
 ) -> u64
-    ensures { λ r. ⌜ r ≡ rankIn side bound c s n sides prices sizes numbers ⌝ }
+    ensures { λ r. ⌜ r ≡ rankIn side (bound .0) c (s .0) n sides prices sizes numbers ⌝ }
 {
     let mut count: u64 = 0;
     let mut i: usize = 0;
@@ -247,8 +306,8 @@ pub fn rank(
             s,
             n,
             sides[i],
-            prices[i],
-            sizes[i],
+            Cents(prices[i]),
+            Contracts(sizes[i]),
             numbers[i],
         ));
         i += 1;

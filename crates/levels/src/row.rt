@@ -1,6 +1,8 @@
-// What one row counts for among those that share an order, on plain numbers: its key, its size and its order number.
+// What one row counts for among those that share an order, by its key, its size and its order number.
 use rows::row::one;
 use rows::row::wide;
+use units::Contracts;
+use units::Total;
 ghost use mathlib.Core.Path.{_≡_};
 ghost use lib.Dec.{eqb};
 ghost use Rattle.units.specs.Picked.{keep, precedes};
@@ -20,10 +22,10 @@ pub fn precedes(a: u64, b: u64, n: u32, m: u32) -> bool
 }
 
 // The key, if something rests there and it is not below the floor; else the top, past every key.
-pub(crate) fn candidate(top: u64, floor: u64, k: u64, size: u32) -> u64
-    ensures { λ r. ⌜ r ≡ candidate top floor k size ⌝ }
+pub(crate) fn candidate(top: u64, floor: u64, k: u64, size: Contracts) -> u64
+    ensures { λ r. ⌜ r ≡ candidate top floor k (size .0) ⌝ }
 {
-    if size == 0 {
+    if size.0 == 0 {
         top
     } else if k < floor {
         top
@@ -33,30 +35,31 @@ pub(crate) fn candidate(top: u64, floor: u64, k: u64, size: u32) -> u64
 }
 
 // What a row holds, if it stands at key c.
-pub(crate) fn held_at(k: u64, size: u32, c: u64) -> u32
-    ensures { λ r. ⌜ r ≡ keep (eqb k c) size ⌝ }
+pub(crate) fn held_at(k: u64, size: Contracts, c: u64) -> Contracts
+    ensures { λ r. ⌜ r .0 ≡ keep (eqb k c) (size .0) ⌝ }
 {
-    if k == c { size } else { 0 }
+    if k == c { size } else { Contracts(0) }
 }
 
 // The whole part of a row's share of what is left, or all of it where all can be had.
-pub fn whole(left: u32, size: u32, total: u64) -> u32
-    ensures { λ r. ⌜ r ≡ wholeOf left size total ⌝ }
+pub fn whole(left: Contracts, size: Contracts, total: Total) -> Contracts
+    ensures { λ r. ⌜ r .0 ≡ wholeOf (left .0) (size .0) (total .0) ⌝ }
 {
-    if total <= wide(left) {
+    let q = left.0 as u64;
+    if total.0 <= q {
         size
     } else {
-        (wide(left) * wide(size) / total) as u32
+        Contracts((q * size.0 as u64 / total.0) as u32)
     }
 }
 
 // 1 for a row at key c that is larger than s, or of size s and earlier than n.
-pub(crate) fn larger(k: u64, size: u32, number: u32, c: u64, s: u32, n: u32) -> u32
-    ensures { λ r. ⌜ r ≡ largerOf k size number c s n ⌝ }
+pub(crate) fn larger(k: u64, size: Contracts, number: u32, c: u64, s: Contracts, n: u32) -> u32
+    ensures { λ r. ⌜ r ≡ largerOf k (size .0) number c (s .0) n ⌝ }
 {
     if k == c {
-        if 0 < size {
-            one(precedes(wide(s), wide(size), number, n))
+        if 0 < size.0 {
+            one(precedes(wide(s.0), wide(size.0), number, n))
         } else {
             0
         }

@@ -3,7 +3,7 @@ use mathlib.Core.Bool.{Bool, cond, _&&_, _||_}
 use mathlib.Core.List.{List}
 use Prim.Native.Nat.{ℕ, _+_, _-_, min, max}
 use lib.Dec.{leb, ltb, eqb}
-use Rattle.rows.specs.Rows.{highest}
+use Rattle.units.specs.Units.{cents}
 use Rattle.units.specs.Places.{table}
 use Rattle.rows.specs.Passes.{highestBuy, lowestSell, restingWithin}
 use Rattle.book.specs.Book.{Book, sideAt, priceAt, sizeAt, ownerAt, numberAt, withinBound, withSizes, bestBid, bestSell}
@@ -68,11 +68,11 @@ bothFill b p q i = max (fill (reach b 1 p) q time i) (fill (reach b 2 p) q time 
 
 -- If buys at p or more remain, each buy at or above the lowest remaining sell is cancelled;
 unfoldable pub buyCut : Cut → ℕ → ℕ → Bool
-buyCut cut side price = eqb side 1 && cut .buys && leb (cut .lowest) price
+buyCut cut side price = eqb side 1 && cut .buys && leb (cut .lowest .0) price
 
 -- if sells at p or less remain, each sell at or below the highest remaining buy is.
 unfoldable pub sellCut : Cut → ℕ → ℕ → Bool
-sellCut cut side price = eqb side 2 && cut .sells && leb price (cut .highest)
+sellCut cut side price = eqb side 2 && cut .sells && leb price (cut .highest .0)
 
 -- what that leaves of a row
 unfoldable pub keptBy : Cut → ℕ → ℕ → ℕ → ℕ
@@ -82,9 +82,9 @@ keptBy cut side price size = cond (buyCut cut side price || sellCut cut side pri
 abbrev pub cutOf : ℕ → (ℕ → ℕ) → (ℕ → ℕ) → (ℕ → ℕ) → ℕ → Cut
 cutOf n side price size p = record {
   buys = ltb 0 (restingWithin n side price size 1 p);
-  lowest = lowestSell n side price size;
+  lowest = cents (lowestSell n side price size);
   sells = ltb 0 (restingWithin n side price size 2 p);
-  highest = highestBuy n side price size;
+  highest = cents (highestBuy n side price size);
 }
 
 -- what that leaves of row i

@@ -14,6 +14,7 @@ use rows::row::greater;
 use rows::row::lesser_wide;
 use units::Cents;
 use units::Contracts;
+use units::Total;
 ghost use mathlib.Core.Path.{_≡_};
 ghost use Prim.Native.Nat.{_*_, _≤_, min, max};
 ghost use lib.ListN.{length};
@@ -48,28 +49,28 @@ fn join(a: &Column, b: &Column) -> Column
 }
 
 // The lesser of what may be bought and what may be sold.
-fn lesser_of(buys: u64, sells: u64) -> u32
-    requires { ⌜ min buys sells ≤ most32 ⌝ }
-    ensures { λ r. ⌜ r ≡ min buys sells ⌝ }
+fn lesser_of(buys: Total, sells: Total) -> Contracts
+    requires { ⌜ min (buys .0) (sells .0) ≤ most32 ⌝ }
+    ensures { λ r. ⌜ r .0 ≡ min (buys .0) (sells .0) ⌝ }
 {
-    lesser_wide(buys, sells) as u32
+    Contracts(lesser_wide(buys.0, sells.0) as u32)
 }
 
 // What each row trades where both sides fill q contracts, by time in every class.
 fn fills_at(
-    price: u32,
-    q: u32,
-    buys: u64,
-    sells: u64,
+    price: Cents,
+    q: Contracts,
+    buys: Total,
+    sells: Total,
     sides: &Column,
     prices: &Column,
     sizes: &Column,
     numbers: &Column,
 ) -> Column
     requires { ⌜ Fit (now prices) (now sizes) (now numbers) ⌝ }
-    requires { ⌜ buys ≡ restingWithin rows (at (now sides)) (at (now prices)) (at (now sizes)) 1 price ⌝ }
-    requires { ⌜ sells ≡ restingWithin rows (at (now sides)) (at (now prices)) (at (now sizes)) 2 price ⌝ }
-    ensures { λ r. ⌜ r ≡ table (bothFill (ownerless sides prices sizes numbers) price q) rows ⌝ }
+    requires { ⌜ buys .0 ≡ restingWithin rows (at (now sides)) (at (now prices)) (at (now sizes)) 1 (price .0) ⌝ }
+    requires { ⌜ sells .0 ≡ restingWithin rows (at (now sides)) (at (now prices)) (at (now sizes)) 2 (price .0) ⌝ }
+    ensures { λ r. ⌜ r ≡ table (bothFill (ownerless sides prices sizes numbers) (price .0) (q .0)) rows ⌝ }
 {
     let bought = shares(TIME, BUY, price, q, buys, sides, prices, sizes, numbers);
     let sold = shares(TIME, SELL, price, q, sells, sides, prices, sizes, numbers);
@@ -95,17 +96,17 @@ pub fn open_at(
     ensures { λ _. ⌜ now (shared .exit) ≡ table (matched (before sides prices sizes owners numbers) (price .0)) rows ⌝ }
     ensures { λ r. ⌜ r ≡ matchedOf (before sides prices sizes owners numbers) (price .0) ⌝ }
 {
-    let buys = resting_within(BUY, price.0, sides, prices, sizes);
-    let sells = resting_within(SELL, price.0, sides, prices, sizes);
+    let buys = resting_within(BUY, price, sides, prices, sizes);
+    let sells = resting_within(SELL, price, sides, prices, sizes);
     let q = lesser_of(buys, sells);
-    let traded = fills_at(price.0, q, buys, sells, sides, prices, sizes, numbers);
+    let traded = fills_at(price, q, buys, sells, sides, prices, sizes, numbers);
     let paid = [price.0; 216];
     *shared = traded;
     let fills = record(&paid, sides, prices, shared, owners, numbers, lent);
     remove(shared, sizes);
-    cancel(price.0, sides, prices, sizes);
+    cancel(price, sides, prices, sizes);
     Matched {
-        volume: Contracts(q),
+        volume: q,
         fills: fills,
     }
 }

@@ -10,12 +10,12 @@ use lib.Dec.{leb, leb·suc-suc}
 use lib.ListN.{length, getD, drop}
 use lib.Seq.{drop-cons}
 use Rattle.units.specs.Tests.{order, less, equal, more}
-use Rattle.units.specs.Units.{most32}
+use Rattle.units.specs.Units.{cents, most32}
 use Rattle.price.specs.Amounts.{minimumAmount}
 use Rattle.price.specs.declared.amounts.Row.{Row}
 
-abbrev row : ℕ → ℕ → Row
-row ceiling amount = record { ceiling = ceiling; amount = amount }
+abbrev pub row : ℕ → ℕ → Row
+row ceiling amount = record { ceiling = cents ceiling; amount = cents amount }
 
 -- the table, with the last row's ceiling the largest number of 32 bits
 abbrev pub rows : List Row
@@ -24,14 +24,14 @@ rows = row 199 25 ∷ row 500 40 ∷ row 1000 50 ∷ row 2000 80 ∷ row 5000 10
 -- the amount of the first row whose ceiling is not below the NBB
 abbrev pub lookup : List Row → ℕ → ℕ
 lookup [] nbb = 0
-lookup (r ∷ rs) nbb = cond (leb nbb (r .ceiling)) (r .amount) (lookup rs nbb)
+lookup (r ∷ rs) nbb = cond (leb nbb (r .ceiling .0)) (r .amount .0) (lookup rs nbb)
 
 module _ (rs : List Row) (i nbb : ℕ) (d : Row) (h : i < length rs) where
-  pub lookup-found : nbb ≤ getD rs i d .ceiling → lookup (drop i rs) nbb ≡ getD rs i d .amount
-  lookup-found le = rw (drop-cons rs i d h, le-leb nbb (getD rs i d .ceiling) le)
+  pub lookup-found : nbb ≤ getD rs i d .ceiling .0 → lookup (drop i rs) nbb ≡ getD rs i d .amount .0
+  lookup-found le = rw (drop-cons rs i d h, le-leb nbb (getD rs i d .ceiling .0) le)
 
-  pub lookup-passed : getD rs i d .ceiling < nbb → lookup (drop i rs) nbb ≡ lookup (drop (i + 1) rs) nbb
-  lookup-passed lt = rw (drop-cons rs i d h, lt-leb nbb (getD rs i d .ceiling) lt, add-one)
+  pub lookup-passed : getD rs i d .ceiling .0 < nbb → lookup (drop i rs) nbb ≡ lookup (drop (i + 1) rs) nbb
+  lookup-passed lt = rw (drop-cons rs i d h, lt-leb nbb (getD rs i d .ceiling .0) lt, add-one)
 
 -- for every NBB of 32 bits the minimum amount is what the table gives
 pub lookup-minimum : (nbb : ℕ) → nbb ≤ most32 → minimumAmount nbb ≡ lookup rows nbb
@@ -39,7 +39,7 @@ unfolding minimumAmount
 lookup-minimum nbb h = rw (le-leb nbb most32 h, minimumAmount, leb·suc-suc nbb 199)
 
 -- no such NBB is above the last ceiling
-pub never-past : (i nbb : ℕ) (d : Row) → i < 7 → nbb ≤ most32 → getD rows i d .ceiling < nbb → i + 1 < 7
+pub never-past : (i nbb : ℕ) (d : Row) → i < 7 → nbb ≤ most32 → getD rows i d .ceiling .0 < nbb → i + 1 < 7
 never-past i nbb d h most lt = elim (order i 6) [
   | less l ↦ omega arith
   | equal e ↦ absurd (let l : most32 < nbb = rw e at lt in omega arith)

@@ -1,52 +1,55 @@
 // The seven-row table of NBB ceilings and minimum amounts.
+use units::Cents;
 use units::MOST_32;
 ghost use mathlib.Core.Path.{_≡_};
 ghost use Rattle.price.specs.Amounts.{minimumAmount};
 
-// An amount, in cents, that holds up to a ceiling of the NBB.
+// An amount that holds up to a ceiling of the NBB.
 struct Row {
-    ceiling: u32,
-    amount: u32,
+    ceiling: Cents,
+    amount: Cents,
 }
 
 const ROWS: [Row; 7] = [
     Row {
-        ceiling: 199,
-        amount: 25,
+        ceiling: Cents(199),
+        amount: Cents(25),
     },
     Row {
-        ceiling: 500,
-        amount: 40,
+        ceiling: Cents(500),
+        amount: Cents(40),
     },
     Row {
-        ceiling: 1000,
-        amount: 50,
+        ceiling: Cents(1000),
+        amount: Cents(50),
     },
     Row {
-        ceiling: 2000,
-        amount: 80,
+        ceiling: Cents(2000),
+        amount: Cents(80),
     },
     Row {
-        ceiling: 5000,
-        amount: 100,
+        ceiling: Cents(5000),
+        amount: Cents(100),
     },
     Row {
-        ceiling: 10000,
-        amount: 150,
+        ceiling: Cents(10000),
+        amount: Cents(150),
     },
     Row {
-        ceiling: MOST_32,
-        amount: 200,
+        ceiling: Cents(MOST_32),
+        amount: Cents(200),
     },
 ];
 
 // The minimum amount at an NBB: that of the first row whose ceiling is not below it.
-pub fn minimum_amount(nbb: u32) -> u32
-    ensures { λ r. ⌜ r ≡ minimumAmount nbb ⌝ }
+pub(crate) fn minimum_amount(nbb: Cents) -> Cents
+    ensures { λ r. ⌜ r .0 ≡ minimumAmount (nbb .0) ⌝ }
 {
     let mut i = 0usize;
-    while ROWS[i].ceiling < nbb {
+    let mut row = ROWS[i];
+    while row.ceiling.0 < nbb.0 {
         i += 1;
+        row = ROWS[i];
     }
-    ROWS[i].amount
+    row.amount
 }

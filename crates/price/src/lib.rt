@@ -23,23 +23,23 @@ pub enum Choice {
 }
 
 // At most the minimum amount above the bid, or at most that below the offer.
-fn near_either(bid: u32, offer: u32, price: u32) -> bool
-    ensures { λ r. ⌜ r ≡ nearEither bid offer price ⌝ }
+fn near_either(bid: Cents, offer: Cents, price: Cents) -> bool
+    ensures { λ r. ⌜ r ≡ nearEither (bid .0) (offer .0) (price .0) ⌝ }
 {
-    let amount = minimum_amount(bid) as u64;
-    if (price as u64) <= (bid as u64) + amount {
+    let amount = minimum_amount(bid).0 as u64;
+    if (price.0 as u64) <= (bid.0 as u64) + amount {
         true
     } else {
-        (offer as u64) <= (price as u64) + amount
+        (offer.0 as u64) <= (price.0 as u64) + amount
     }
 }
 
 // Whether a price lies within both quotes and near either.
-fn between(bid: u32, offer: u32, price: u32) -> bool
-    ensures { λ r. ⌜ r ≡ (leb bid price && leb price offer && nearEither bid offer price) ⌝ }
+fn between(bid: Cents, offer: Cents, price: Cents) -> bool
+    ensures { λ r. ⌜ r ≡ (leb (bid .0) (price .0) && leb (price .0) (offer .0) && nearEither (bid .0) (offer .0) (price .0)) ⌝ }
 {
-    if bid <= price {
-        if price <= offer {
+    if bid.0 <= price.0 {
+        if price.0 <= offer.0 {
             near_either(bid, offer, price)
         } else {
             false
@@ -50,42 +50,42 @@ fn between(bid: u32, offer: u32, price: u32) -> bool
 }
 
 // Whether the away quote allows a price.
-fn valid(bid: u32, offer: u32, price: u32) -> bool
-    ensures { λ r. ⌜ r ≡ valid bid offer price ⌝ }
+fn valid(bid: Cents, offer: Cents, price: Cents) -> bool
+    ensures { λ r. ⌜ r ≡ valid (bid .0) (offer .0) (price .0) ⌝ }
 {
-    if 0 < bid {
-        if 0 < offer {
+    if 0 < bid.0 {
+        if 0 < offer.0 {
             between(bid, offer, price)
         } else {
-            bid <= price
+            bid.0 <= price.0
         }
-    } else if 0 < offer {
-        price <= offer
+    } else if 0 < offer.0 {
+        price.0 <= offer.0
     } else {
         true
     }
 }
 
 // Halfway between the quotes, rounded down to a cent; 0 if one is absent.
-fn midpoint(bid: u32, offer: u32) -> u32
-    ensures { λ r. ⌜ r ≡ midpoint bid offer ⌝ }
+fn midpoint(bid: Cents, offer: Cents) -> Cents
+    ensures { λ r. ⌜ r .0 ≡ midpoint (bid .0) (offer .0) ⌝ }
 {
-    if 0 < bid {
-        if 0 < offer {
-            (((bid as u64) + (offer as u64)) / 2) as u32
+    if 0 < bid.0 {
+        if 0 < offer.0 {
+            Cents((((bid.0 as u64) + (offer.0 as u64)) / 2) as u32)
         } else {
-            0
+            Cents(0)
         }
     } else {
-        0
+        Cents(0)
     }
 }
 
 // Whether a price is there and allowed.
-fn usable(bid: u32, offer: u32, price: u32) -> bool
-    ensures { λ r. ⌜ r ≡ usable bid offer price ⌝ }
+fn usable(bid: Cents, offer: Cents, price: Cents) -> bool
+    ensures { λ r. ⌜ r ≡ usable (bid .0) (offer .0) (price .0) ⌝ }
 {
-    if 0 < price {
+    if 0 < price.0 {
         valid(bid, offer, price)
     } else {
         false
@@ -96,16 +96,16 @@ fn usable(bid: u32, offer: u32, price: u32) -> bool
 pub fn choose(s: Sources) -> Choice
     ensures { λ r. ⌜ r ≡ priceOf s ⌝ }
 {
-    let bid = s.bid.0;
-    let offer = s.offer.0;
+    let bid = s.bid;
+    let offer = s.offer;
     let print = s.print;
     let close = s.close;
     let middle = midpoint(bid, offer);
     if usable(bid, offer, middle) {
-        Choice::At(Cents(middle))
-    } else if usable(bid, offer, print.0) {
+        Choice::At(middle)
+    } else if usable(bid, offer, print) {
         Choice::At(print)
-    } else if usable(bid, offer, close.0) {
+    } else if usable(bid, offer, close) {
         Choice::At(close)
     } else {
         Choice::NoneValid

@@ -11,48 +11,60 @@ use crate::row::open_size;
 use crate::row::rests_for;
 use crate::row::sell_price;
 use crate::row::wide;
+use units::Cents;
+use units::Contracts;
+use units::Total;
 ghost use mathlib.Core.Path.{_≡_};
 ghost use Rattle.units.specs.Lent.{found};
 ghost use Rattle.rows.specs.Rows.{rows};
 ghost use Rattle.rows.specs.Passes.{highestBuy, lowestSell, restingWithin, restingRows, orderRow, freeRow};
 
 // The highest resting buy, 0 where there is none.
-pub fn highest_buy(sides: &Column, prices: &Column, sizes: &Column) -> u32
-    ensures { λ r. ⌜ r ≡ highestBuy rows (found sides) (found prices) (found sizes) ⌝ }
+pub fn highest_buy(sides: &Column, prices: &Column, sizes: &Column) -> Cents
+    ensures { λ r. ⌜ r .0 ≡ highestBuy rows (found sides) (found prices) (found sizes) ⌝ }
 {
     let mut most: u32 = 0;
     let mut i: usize = 0;
     while i < ROWS {
-        most = greater(most, buy_price(sides[i], prices[i], sizes[i]));
+        let bid = buy_price(sides[i], Cents(prices[i]), Contracts(sizes[i]));
+        most = greater(most, bid.0);
         i += 1;
     }
-    most
+    Cents(most)
 }
 
 // The lowest resting sell, above every price where there is none.
-pub fn lowest_sell(sides: &Column, prices: &Column, sizes: &Column) -> u32
-    ensures { λ r. ⌜ r ≡ lowestSell rows (found sides) (found prices) (found sizes) ⌝ }
+pub fn lowest_sell(sides: &Column, prices: &Column, sizes: &Column) -> Cents
+    ensures { λ r. ⌜ r .0 ≡ lowestSell rows (found sides) (found prices) (found sizes) ⌝ }
 {
     let mut least: u32 = NO_PRICE;
     let mut i: usize = 0;
     while i < ROWS {
-        least = lesser(least, sell_price(sides[i], prices[i], sizes[i]));
+        let offer = sell_price(sides[i], Cents(prices[i]), Contracts(sizes[i]));
+        least = lesser(least, offer.0);
         i += 1;
     }
-    least
+    Cents(least)
 }
 
 // Contracts that may be traded on a side within a bound.
-pub fn resting_within(side: u32, bound: u32, sides: &Column, prices: &Column, sizes: &Column) -> u64
-    ensures { λ r. ⌜ r ≡ restingWithin rows (found sides) (found prices) (found sizes) side bound ⌝ }
+pub fn resting_within(
+    side: u32,
+    bound: Cents,
+    sides: &Column,
+    prices: &Column,
+    sizes: &Column,
+) -> Total
+    ensures { λ r. ⌜ r .0 ≡ restingWithin rows (found sides) (found prices) (found sizes) side (bound .0) ⌝ }
 {
     let mut sum: u64 = 0;
     let mut i: usize = 0;
     while i < ROWS {
-        sum += wide(open_size(side, bound, sides[i], prices[i], sizes[i]));
+        let tradable = open_size(side, bound, sides[i], Cents(prices[i]), Contracts(sizes[i]));
+        sum += wide(tradable.0);
         i += 1;
     }
-    sum
+    Total(sum)
 }
 
 // How many rows a tenant has resting.
@@ -62,7 +74,7 @@ pub fn resting_rows(owners: &Column, sizes: &Column, tenant: u32) -> u32
     let mut count: u32 = 0;
     let mut i: usize = 0;
     while i < ROWS {
-        count += one(rests_for(tenant, owners[i], sizes[i]));
+        count += one(rests_for(tenant, owners[i], Contracts(sizes[i])));
         i += 1;
     }
     count
@@ -80,7 +92,7 @@ pub fn order_row(
 {
     let mut i: usize = 0;
     while i < ROWS {
-        if is_order(tenant, number, owners[i], numbers[i], sizes[i]) {
+        if is_order(tenant, number, owners[i], numbers[i], Contracts(sizes[i])) {
             return i;
         }
         i += 1;

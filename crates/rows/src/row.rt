@@ -1,8 +1,10 @@
-// What one row counts for, on plain numbers: its side, its price, its size, its owner and its order number.
+// What one row counts for, by its side, its price, its size, its owner and its order number.
 use crate::BUY;
 use crate::HIGHEST;
 use crate::NO_PRICE;
 use crate::SELL;
+use units::Cents;
+use units::Contracts;
 ghost use mathlib.Core.Path.{_≡_};
 ghost use Prim.Native.Nat.{_-_, min, max};
 ghost use Rattle.units.specs.Picked.{keep};
@@ -58,72 +60,82 @@ pub fn one(test: bool) -> u32
 }
 
 // A lower key is a better price.
-pub fn key(side: u32, price: u32) -> u32
-    ensures { λ r. ⌜ r ≡ keyOf side price ⌝ }
+pub fn key(side: u32, price: Cents) -> u32
+    ensures { λ r. ⌜ r ≡ keyOf side (price .0) ⌝ }
 {
     if side == SELL {
-        price
+        price.0
     } else {
-        beyond(HIGHEST, price)
+        beyond(HIGHEST, price.0)
     }
 }
 
 // Whether a price is no worse than the bound.
-fn within(side: u32, price: u32, bound: u32) -> bool
-    ensures { λ r. ⌜ r ≡ within side price bound ⌝ }
+fn within(side: u32, price: Cents, bound: Cents) -> bool
+    ensures { λ r. ⌜ r ≡ within side (price .0) (bound .0) ⌝ }
 {
     if side == SELL {
-        price <= bound
+        price.0 <= bound.0
     } else {
-        bound <= price
+        bound.0 <= price.0
     }
 }
 
 // What an order may trade with of a row: its size, if it is on the side and within the bound.
-pub fn open_size(side: u32, bound: u32, row_side: u32, price: u32, size: u32) -> u32
-    ensures { λ r. ⌜ r ≡ openSize side bound «row_side» price size ⌝ }
+pub fn open_size(side: u32, bound: Cents, row_side: u32, price: Cents, size: Contracts) -> Contracts
+    ensures { λ r. ⌜ r .0 ≡ openSize side (bound .0) «row_side» (price .0) (size .0) ⌝ }
 {
     if row_side == side {
-        if within(side, price, bound) { size } else { 0 }
+        if within(side, price, bound) {
+            size
+        } else {
+            Contracts(0)
+        }
     } else {
-        0
+        Contracts(0)
     }
 }
 
 // A row's price if it is a resting buy, else 0.
-pub(crate) fn buy_price(side: u32, price: u32, size: u32) -> u32
-    ensures { λ r. ⌜ r ≡ buyPrice side price size ⌝ }
+pub(crate) fn buy_price(side: u32, price: Cents, size: Contracts) -> Cents
+    ensures { λ r. ⌜ r .0 ≡ buyPrice side (price .0) (size .0) ⌝ }
 {
     if side == BUY {
-        if 0 < size { price } else { 0 }
+        if 0 < size.0 { price } else { Cents(0) }
     } else {
-        0
+        Cents(0)
     }
 }
 
 // A row's price if it is a resting sell, else above every price.
-pub(crate) fn sell_price(side: u32, price: u32, size: u32) -> u32
-    ensures { λ r. ⌜ r ≡ sellPrice side price size ⌝ }
+pub(crate) fn sell_price(side: u32, price: Cents, size: Contracts) -> Cents
+    ensures { λ r. ⌜ r .0 ≡ sellPrice side (price .0) (size .0) ⌝ }
 {
     if side == SELL {
-        if 0 < size { price } else { NO_PRICE }
+        if 0 < size.0 { price } else { Cents(NO_PRICE) }
     } else {
-        NO_PRICE
+        Cents(NO_PRICE)
     }
 }
 
 // Whether a row rests for a tenant.
-pub(crate) fn rests_for(tenant: u32, owner: u32, size: u32) -> bool
-    ensures { λ r. ⌜ r ≡ restsFor tenant owner size ⌝ }
+pub(crate) fn rests_for(tenant: u32, owner: u32, size: Contracts) -> bool
+    ensures { λ r. ⌜ r ≡ restsFor tenant owner (size .0) ⌝ }
 {
-    if 0 < size { owner == tenant } else { false }
+    if 0 < size.0 { owner == tenant } else { false }
 }
 
 // Whether a row is the resting order of that number, and that tenant's.
-pub(crate) fn is_order(tenant: u32, number: u32, owner: u32, row_number: u32, size: u32) -> bool
-    ensures { λ r. ⌜ r ≡ isOrder tenant number owner «row_number» size ⌝ }
+pub(crate) fn is_order(
+    tenant: u32,
+    number: u32,
+    owner: u32,
+    row_number: u32,
+    size: Contracts,
+) -> bool
+    ensures { λ r. ⌜ r ≡ isOrder tenant number owner «row_number» (size .0) ⌝ }
 {
-    if 0 < size {
+    if 0 < size.0 {
         if owner == tenant {
             row_number == number
         } else {

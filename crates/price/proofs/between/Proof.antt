@@ -9,6 +9,6 @@ between-spec =
     tie.close
     (tie.spec
     (λ c κs. search needs)
-    (λ c. rw (← (c .near-either .ensures)) (simp (le-leb _ _ (c .before .before .if1 .taken), le-leb _ _ (c .before .if2 .taken))))
-    (λ c. simp (le-leb _ _ (c .before .if1 .taken), lt-leb _ _ (c .if2 .left)))
+    (λ c. rw (← (c .near-either .ensures)) (simp (le-leb _ _ (c .before .before .before .before .if1 .taken), le-leb _ _ (c .before .if2 .taken))))
+    (λ c. simp (le-leb _ _ (c .before .before .before .if1 .taken), lt-leb _ _ (c .if2 .left)))
     (λ c. simp (lt-leb _ _ (c .if1 .left))))

@@ -12,6 +12,8 @@ midpoint-spec =
     (tie.spec
     (λ c. search needs)
     (λ c. search needs)
-    (λ c. simp (lt-ltb _ _ (c .before .if1 .taken), lt-ltb _ _ (c .if2 .taken)))
-    (λ c. simp (lt-ltb _ _ (c .before .if1 .taken), le-ltb _ _ (c .if2 .left)))
+    (λ c. search needs)
+    (λ c. search needs)
+    (λ c. simp (lt-ltb _ _ (c .before .before .before .before .if1 .taken), lt-ltb _ _ (c .before .before .if2 .taken)))
+    (λ c. simp (lt-ltb _ _ (c .before .before .if1 .taken), le-ltb _ _ (c .if2 .left)))
     (λ c. simp (le-ltb _ _ (c .if1 .left))))

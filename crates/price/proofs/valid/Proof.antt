@@ -11,7 +11,7 @@ valid-spec =
     tie.close
     (tie.spec
     (λ c κs. search needs)
-    (λ c. rw (← (c .between .ensures)) (simp (lt-ltb _ _ (c .before .before .if1 .taken), lt-ltb _ _ (c .before .if2 .taken))))
-    (λ c. simp (lt-ltb _ _ (c .before .if1 .taken), le-ltb _ _ (c .if2 .left)))
-    (λ c. simp (le-ltb _ _ (c .before .if1 .left), lt-ltb _ _ (c .if3 .taken)))
-    (λ c. simp (le-ltb _ _ (c .before .if1 .left), le-ltb _ _ (c .if3 .left))))
+    (λ c. rw (← (c .between .ensures)) (simp (lt-ltb _ _ (c .before .before .before .if1 .taken), lt-ltb _ _ (c .before .if2 .taken))))
+    (λ c. simp (lt-ltb _ _ (c .before .before .before .before .if1 .taken), le-ltb _ _ (c .before .before .if2 .left)))
+    (λ c. simp (le-ltb _ _ (c .before .before .before .before .if1 .left), lt-ltb _ _ (c .before .before .if3 .taken)))
+    (λ c. simp (le-ltb _ _ (c .before .before .if1 .left), le-ltb _ _ (c .if3 .left))))

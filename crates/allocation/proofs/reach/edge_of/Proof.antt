@@ -17,7 +17,7 @@ edge-of-spec =
     (λ c. search needs)
     (λ c κs. search needs)
     (λ c.
-    let s = c .before .before in
+    let s = c .before .before .before .before .before in
     let a = s .args in
-    edge-of-all _ _ _ _ _ _ (keys-below (a .side) (a .bound) (a .sides .now) (a .prices .now) (a .sizes .now) (s .pre .0)) (s .pre .1) (omega (arith, c .before .wide .ensures)))
+    edge-of-all _ _ _ _ _ _ (keys-below (a .side) (a .bound .0) (a .sides .now) (a .prices .now) (a .sizes .now) (s .pre .0)) (s .pre .1) (omega (arith, c .before .before .before .before .wide .ensures)))
     (λ c. search needs))

@@ -12,7 +12,7 @@ use Rattle.allocation.proofs.reach.in_line.Statement.{statement}
 use Rattle.allocation.proofs.reach.in_line.Tie as tie
 
 abbrev Inv-loop : tie.InvT-loop
-Inv-loop side bound m sides prices sizes numbers left₀ floor₀ left floor = Reaching rows (at numbers) (same (keysOn side (at prices)) (m .key) (opensOn side bound (at sides) (at prices) (at sizes))) (m .left) left floor
+Inv-loop side bound m sides prices sizes numbers left₀ floor₀ left floor = Reaching rows (at numbers) (same (keysOn side (at prices)) (m .key) (opensOn side (bound .0) (at sides) (at prices) (at sizes))) (m .left .0) left floor
 
 abbrev μ-loop : tie.MeasureT-loop
 μ-loop side bound m sides prices sizes numbers left₀ floor₀ left floor = noNumber - floor
@@ -27,10 +27,10 @@ in-line-spec =
     (λ c κs. search needs)
     (λ c κs. search needs)
     (λ c κs. search needs)
-    (λ c. edge-found _ _ _ _ _ _ _ _ _ (c .before .before .before .before .loop-test .taken) (c .before .before .before .before .before .loop .inv) (c .before .before .before .next-from .ensures) (c .before .before .held-by .ensures) (rw (c .before .wide .ensures) at (c .if1 .taken)))
-    (λ c. omega (arith, (rw (c .before .wide .ensures) at (c .if1 .left))))
-    (λ c. omega (arith, (rw (c .before .wide .ensures) at (c .if1 .left))))
-    (λ c. omega (arith, best-bounds _ _ _ _ _ _ _ _ _ (c .before .before .before .before .loop-test .taken) (c .before .before .before .before .before .loop .inv) (c .before .before .before .next-from .ensures) (c .before .before .held-by .ensures)))
-    (λ c. omega (arith, best-bounds _ _ _ _ _ _ _ _ _ (c .before .before .before .before .loop-test .taken) (c .before .before .before .before .before .loop .inv) (c .before .before .before .next-from .ensures) (c .before .before .held-by .ensures)))
-    (λ c. reaching-goes-on _ _ _ _ _ _ _ _ _ (c .before .before .before .before .loop-test .taken) (c .before .before .before .before .before .loop .inv) (c .before .before .before .next-from .ensures) (c .before .before .held-by .ensures) (rw (c .before .wide .ensures) at (c .if1 .left)))
-    (λ c. edge-past _ _ _ _ _ _ _ (c .loop-test .left) (let a = c .before .before .args in numbers-below (a .side) (a .bound) (a .sides .now) (a .prices .now) (a .sizes .now) (a .numbers .now) (a .m .key) (c .before .before .pre)) (c .before .loop .inv)))
+    (λ c. edge-found _ _ _ _ _ _ _ _ _ (c .before .before .before .before .before .loop-test .taken) (c .before .before .before .before .before .before .loop .inv) (c .before .before .before .before .next-from .ensures) (c .before .before .before .held-by .ensures) (rw (c .before .before .wide .ensures) at (c .if1 .taken)))
+    (λ c. omega (arith, (rw (c .before .before .before .wide .ensures) at (c .before .if1 .left))))
+    (λ c. omega (arith, (rw (c .before .before .before .wide .ensures) at (c .before .if1 .left))))
+    (λ c. omega (arith, best-bounds _ _ _ _ _ _ _ _ _ (c .before .before .before .before .before .before .loop-test .taken) (c .before .before .before .before .before .before .before .loop .inv) (c .before .before .before .before .before .next-from .ensures) (c .before .before .before .before .held-by .ensures)))
+    (λ c. omega (arith, best-bounds _ _ _ _ _ _ _ _ _ (c .before .before .before .before .before .before .loop-test .taken) (c .before .before .before .before .before .before .before .loop .inv) (c .before .before .before .before .before .next-from .ensures) (c .before .before .before .before .held-by .ensures)))
+    (λ c. reaching-goes-on _ _ _ _ _ _ _ _ _ (c .before .before .before .before .before .before .loop-test .taken) (c .before .before .before .before .before .before .before .loop .inv) (c .before .before .before .before .before .next-from .ensures) (c .before .before .before .before .held-by .ensures) (rw (c .before .before .before .wide .ensures) at (c .before .if1 .left)))
+    (λ c. edge-past _ _ _ _ _ _ _ (c .loop-test .left) (let a = c .before .before .args in numbers-below (a .side) (a .bound .0) (a .sides .now) (a .prices .now) (a .sizes .now) (a .numbers .now) (a .m .key) (c .before .before .pre)) (c .before .loop .inv)))

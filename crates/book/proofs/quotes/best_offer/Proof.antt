@@ -11,5 +11,5 @@ best-offer-spec =
     tie.close
     (tie.spec
     (λ c κs. search needs)
-    (λ c. λ owners numbers. rw (← (c .before .lowest-sell .ensures)) (simp (le-leb _ _ (c .if1 .taken))))
-    (λ c. λ owners numbers. rw (← (c .before .lowest-sell .ensures)) (simp (lt-leb _ _ (c .if1 .left)))))
+    (λ c. λ owners numbers. rw (← (c .before .before .lowest-sell .ensures)) (simp (le-leb _ _ (c .if1 .taken))))
+    (λ c. λ owners numbers. rw (← (c .before .before .lowest-sell .ensures)) (simp (lt-leb _ _ (c .if1 .left)))))

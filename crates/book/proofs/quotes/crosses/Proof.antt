@@ -1,5 +1,7 @@
--- `book::quotes::crosses` meets its contract, by the two passes.
+-- `book::quotes::crosses` meets its contract, by the two best prices.
+use mathlib.Core.Path.{ap}
 use borrow.Author.Needs.{needs}
+use Rattle.units.specs.declared.Cents.{Cents}
 use Rattle.book.specs.Book.{crosses}
 use Rattle.book.proofs.quotes.crosses.Statement.{statement}
 use Rattle.book.proofs.quotes.crosses.Tie as tie
@@ -11,4 +13,4 @@ crosses-spec =
     (tie.spec
     (λ c κs. search needs)
     (λ c κs. search needs)
-    (λ c. λ owners numbers. rw (← (c .before .lowest-sell .ensures), ← (c .highest-buy .ensures)) (search needs)))
+    (λ c. λ owners numbers. rw (← (c .before .before .before .lowest-sell .ensures), ← (ap (λ (b : Cents). b .0) (c .before .before .best-bid .ensures owners numbers))) (search needs)))

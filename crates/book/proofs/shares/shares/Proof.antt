@@ -16,5 +16,5 @@ shares-spec =
     (λ c κs. search needs)
     (λ c κs. search needs)
     (λ c κs. search needs)
-    (λ c. let s = c .before .before .before .before in let a = s .args in c .by-time .ensures ∙ shares-by-time (a .side) (a .bound) (a .q) (a .allocation) (a .sides .now) (a .prices .now) (a .sizes .now) (a .numbers .now) (s .pre .0 .apart) _ (c .before .before .before .edge-of .ensures .at-edge) _ (c .before .in-line .ensures .at-edge) (c .before .before .if1 .taken))
-    (λ c. let s = c .before .before .before .before in let a = s .args in rw (c .before .sharing .ensures) at (c .in-proportion .ensures) ∙ shares-in-proportion (a .side) (a .bound) (a .q) (a .allocation) (a .sides .now) (a .prices .now) (a .sizes .now) (a .numbers .now) (s .pre .0 .apart) (c .before .before .before .edge-of .result) (c .before .before .before .edge-of .ensures .at-edge) (c .before .before .if1 .left)))
+    (λ c. let s = c .before .before .before .before in let a = s .args in c .by-time .ensures ∙ shares-by-time (a .side) (a .bound .0) (a .q .0) (a .allocation) (a .sides .now) (a .prices .now) (a .sizes .now) (a .numbers .now) (s .pre .0 .apart) _ (c .before .before .before .edge-of .ensures .at-edge) _ (c .before .in-line .ensures .at-edge) (c .before .before .if1 .taken))
+    (λ c. let s = c .before .before .before .before in let a = s .args in rw (c .before .sharing .ensures) at (c .in-proportion .ensures) ∙ shares-in-proportion (a .side) (a .bound .0) (a .q .0) (a .allocation) (a .sides .now) (a .prices .now) (a .sizes .now) (a .numbers .now) (s .pre .0 .apart) (c .before .before .before .edge-of .result) (c .before .before .before .edge-of .ensures .at-edge) (c .before .before .if1 .left)))

@@ -8,14 +8,14 @@ use Rattle.book.proofs.trading.trade.Tie as tie
 
 returns : tie.Need-returns
 returns c =
-    let s = c .before .before .before .before in
+    let s = c .before .before .before .before .before in
     let a = s .args in
-    let n = sym (c .before .before .resting-within .ensures) ∙ c .before .if1 .taken in
+    let n = sym (c .before .before .before .resting-within .ensures) ∙ c .before .if1 .taken in
     (nothing-left (a .sides .now) (a .prices .now) (a .sizes .now) (a .owners .now) (a .numbers .now) (s .pre .0) (a .side) (a .bound .0) (a .q .0) (a .allocation) n, (nothing-written (a .sides .now) (a .prices .now) (a .sizes .now) (a .owners .now) (a .numbers .now) (s .pre .0) (a .side) (a .bound .0) (a .q .0) (a .allocation) n _ (s .pre .1), (nothing-shared (a .sides .now) (a .prices .now) (a .sizes .now) (a .owners .now) (a .numbers .now) (s .pre .0) (a .side) (a .bound .0) (a .q .0) (a .allocation) n, trade-answers (a .sides .now) (a .prices .now) (a .sizes .now) (a .owners .now) (a .numbers .now) (s .pre .0) (a .side) (a .bound .0) (a .q .0) (a .allocation) _ _ (nothing-filled (a .sides .now) (a .prices .now) (a .sizes .now) (a .owners .now) (a .numbers .now) (s .pre .0) (a .side) (a .bound .0) (a .q .0) (a .allocation) n) (nothing-counted (a .sides .now) (a .prices .now) (a .sizes .now) (a .owners .now) (a .numbers .now) (s .pre .0) (a .side) (a .bound .0) (a .q .0) (a .allocation) n))))
 
 record-requires : tie.Need-record-requires
 record-requires c κs =
-    let s = c .before .before .before .before .before .before .before in
+    let s = c .before .before .before .before .before .before .before .before in
     let a = s .args in
     (took-apart (a .sides .now) (a .prices .now) (a .sizes .now) (a .owners .now) (a .numbers .now) (s .pre .0) (a .side) (a .bound .0) (a .q .0) (a .allocation) _ (c .before .before .shares .ensures), s .pre .1)
 
@@ -23,7 +23,7 @@ returns-2 : tie.Need-returns-2
 returns-2 c =
     let recording = c .before .before .before .before in
     let sharing = recording .before .before .before in
-    let summed = sharing .before .before .before in
+    let summed = sharing .before .before .before .before in
     let s = summed .before .before in
     let a = s .args in
     let are = sharing .shares .ensures in (

@@ -11,7 +11,8 @@ unfolding pick lowerIf
 lower-spec =
     tie.close
     (tie.spec
+    (λ c. search needs)
     (λ c κs. search needs)
-    (λ c. omega (arith, c .lesser-wide .ensures))
-    (λ c. rw (c .before .if1 .taken) (c .lesser-wide .ensures))
+    (λ c. omega (arith, c .lesser-wide .ensures, c .before .struct-known .given .0 .fits))
+    (λ c. rw (c .before .before .if1 .taken) (c .lesser-wide .ensures))
     (λ c. rw (c .if1 .left)))

@@ -9,7 +9,7 @@ use Rattle.levels.proofs.passes.best_from.Statement.{statement}
 use Rattle.levels.proofs.passes.best_from.Tie as tie
 
 abbrev Inv-loop : tie.InvT-loop
-Inv-loop side bound floor sides prices sizes least₀ i₀ least i = Searched rows noPrice (λ j. candidate noPrice floor (keysOn side (at prices) j) (opensOn side bound (at sides) (at prices) (at sizes) j)) i least
+Inv-loop side bound floor sides prices sizes least₀ i₀ least i = Searched rows noPrice (λ j. candidate noPrice floor (keysOn side (at prices) j) (opensOn side (bound .0) (at sides) (at prices) (at sizes) j)) i least
 
 abbrev μ-loop : tie.MeasureT-loop
 μ-loop side bound floor sides prices sizes least₀ i₀ least i = rows - i

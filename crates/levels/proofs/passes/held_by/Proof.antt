@@ -15,7 +15,7 @@ use Rattle.levels.proofs.passes.held_by.Statement.{statement}
 use Rattle.levels.proofs.passes.held_by.Tie as tie
 
 abbrev Inv-loop : tie.InvT-loop
-Inv-loop side bound c n sides prices sizes numbers sum₀ i₀ sum i = Passed rows (same (at numbers) n (same (keysOn side (at prices)) c (opensOn side bound (at sides) (at prices) (at sizes)))) i sum × (sum ≤ i * most32)
+Inv-loop side bound c n sides prices sizes numbers sum₀ i₀ sum i = Passed rows (same (at numbers) n (same (keysOn side (at prices)) c (opensOn side (bound .0) (at sides) (at prices) (at sizes)))) i sum × (sum ≤ i * most32)
 
 abbrev μ-loop : tie.MeasureT-loop
 μ-loop side bound c n sides prices sizes numbers sum₀ i₀ sum i = rows - i

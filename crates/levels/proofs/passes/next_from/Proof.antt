@@ -10,7 +10,7 @@ use Rattle.levels.proofs.passes.next_from.Statement.{statement}
 use Rattle.levels.proofs.passes.next_from.Tie as tie
 
 abbrev Inv-loop : tie.InvT-loop
-Inv-loop side bound c floor sides prices sizes numbers least₀ i₀ least i = Searched rows noNumber (λ j. candidate noNumber floor (at numbers j) (tradableAt side bound c (at sides j) (at prices j) (at sizes j))) i least
+Inv-loop side bound c floor sides prices sizes numbers least₀ i₀ least i = Searched rows noNumber (λ j. candidate noNumber floor (at numbers j) (tradableAt side (bound .0) c (at sides j) (at prices j) (at sizes j))) i least
 
 abbrev μ-loop : tie.MeasureT-loop
 μ-loop side bound c floor sides prices sizes numbers least₀ i₀ least i = rows - i

@@ -13,7 +13,7 @@ use Rattle.levels.proofs.passes.rank.Statement.{statement}
 use Rattle.levels.proofs.passes.rank.Tie as tie
 
 abbrev Inv-loop : tie.InvT-loop
-Inv-loop side bound c s n sides prices sizes numbers count₀ i₀ count i = Passed rows (larger (keysOn side (at prices)) (opensOn side bound (at sides) (at prices) (at sizes)) (at numbers) c s n) i count × (count ≤ i * most32)
+Inv-loop side bound c s n sides prices sizes numbers count₀ i₀ count i = Passed rows (larger (keysOn side (at prices)) (opensOn side (bound .0) (at sides) (at prices) (at sizes)) (at numbers) c (s .0) n) i count × (count ≤ i * most32)
 
 abbrev μ-loop : tie.MeasureT-loop
 μ-loop side bound c s n sides prices sizes numbers count₀ i₀ count i = rows - i

@@ -14,7 +14,7 @@ use Rattle.levels.proofs.passes.whole_parts.Statement.{statement}
 use Rattle.levels.proofs.passes.whole_parts.Tie as tie
 
 abbrev Inv-loop : tie.InvT-loop
-Inv-loop side bound c left total sides prices sizes sum₀ i₀ sum i = Passed rows (same (keysOn side (at prices)) c (wholes left total (opensOn side bound (at sides) (at prices) (at sizes)))) i sum × (sum ≤ i * most32)
+Inv-loop side bound c left total sides prices sizes sum₀ i₀ sum i = Passed rows (same (keysOn side (at prices)) c (wholes (left .0) (total .0) (opensOn side (bound .0) (at sides) (at prices) (at sizes)))) i sum × (sum ≤ i * most32)
 
 abbrev μ-loop : tie.MeasureT-loop
 μ-loop side bound c left total sides prices sizes sum₀ i₀ sum i = rows - i

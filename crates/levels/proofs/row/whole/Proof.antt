@@ -12,11 +12,10 @@ unfolding wholeOf
 whole-spec =
     tie.close
     (tie.spec
-    (λ c κs. search needs)
-    (λ c κs. search needs)
-    (λ c κs. search needs)
-    (λ c. record { fits = rw (c .before .wide2 .ensures, c .wide3 .ensures) (let s = c .before .before .before .before in product-fits (s .args .left) (s .args .size) (omega (arith, s .fits .left .fits)) (omega (arith, s .fits .size .fits))) })
     (λ c. search needs)
-    (λ c. let a = c .before .before .before .before .args in rw (c .before .wide2 .ensures, c .wide3 .ensures) (omega (arith, share-most (a .left) (a .size) (a .total) (omega (arith, c .before .before .before .wide .ensures, c .before .before .if1 .left)))))
-    (λ c. simp (le-leb _ _ (rw (c .before .wide .ensures) at (c .if1 .taken))))
-    (λ c. simp (lt-leb _ _ (rw (c .before .before .before .wide .ensures) at (c .before .before .if1 .left))) (rw (c .before .wide2 .ensures, c .wide3 .ensures))))
+    (λ c. search needs)
+    (λ c. let left = c .before .before .before in let a = left .before .args in record { fits = product-fits (a .left .0) (a .size .0) (omega (arith, left .struct-known .given .0 .fits)) (omega (arith, c .struct-known3 .given .0 .fits)) })
+    (λ c. search needs)
+    (λ c. let a = c .before .before .before .before .before .args in omega (arith, share-most (a .left .0) (a .size .0) (a .total .0) (omega (arith, c .before .before .if1 .left))))
+    (λ c. simp (le-leb _ _ (c .if1 .taken)))
+    (λ c. simp (lt-leb _ _ (c .before .before .if1 .left))))

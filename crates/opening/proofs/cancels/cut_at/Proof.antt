@@ -11,4 +11,4 @@ cut-at-spec =
     (λ c κs. search needs)
     (λ c κs. search needs)
     (λ c κs. search needs)
-    (λ c. rw (← (c .before .before .before .resting-within .ensures), ← (c .before .before .resting-within2 .ensures), ← (c .before .lowest-sell .ensures), ← (c .highest-buy .ensures))))
+    (λ c. rw (← (c .before .before .before .before .before .resting-within .ensures), ← (c .before .before .before .before .resting-within2 .ensures), ← (c .before .before .before .lowest-sell .ensures), ← (c .before .before .highest-buy .ensures))))

@@ -9,6 +9,6 @@ unfolding sellCut
 sell-cut-spec =
     tie.close
     (tie.spec
-    (λ c. simp (eq-eqb _ _ (c .before .before .if1 .taken), c .before .if2 .taken))
+    (λ c. simp (eq-eqb _ _ (c .before .before .before .if1 .taken), c .before .before .if2 .taken))
     (λ c. simp (eq-eqb _ _ (c .before .if1 .taken), c .if2 .left))
     (λ c. simp (ne-eqb _ _ (c .if1 .left))))

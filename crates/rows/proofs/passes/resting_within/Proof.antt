@@ -13,7 +13,7 @@ use Rattle.rows.proofs.passes.resting_within.Statement.{statement}
 use Rattle.rows.proofs.passes.resting_within.Tie as tie
 
 abbrev Inv-loop : tie.InvT-loop
-Inv-loop side bound sides prices sizes sum₀ i₀ sum i = Passed rows (λ j. openSize side bound (at sides j) (at prices j) (at sizes j)) i sum × (sum ≤ i * most32)
+Inv-loop side bound sides prices sizes sum₀ i₀ sum i = Passed rows (λ j. openSize side (bound .0) (at sides j) (at prices j) (at sizes j)) i sum × (sum ≤ i * most32)
 
 abbrev μ-loop : tie.MeasureT-loop
 μ-loop side bound sides prices sizes sum₀ i₀ sum i = rows - i

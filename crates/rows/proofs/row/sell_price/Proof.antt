@@ -9,6 +9,6 @@ unfolding sellPrice
 sell-price-spec =
     tie.close
     (tie.spec
-    (λ c. simp (eq-eqb _ _ (c .before .if1 .taken), lt-ltb _ _ (c .if2 .taken)))
-    (λ c. simp (eq-eqb _ _ (c .before .if1 .taken), le-ltb _ _ (c .if2 .left)))
+    (λ c. simp (eq-eqb _ _ (c .before .before .if1 .taken), lt-ltb _ _ (c .if2 .taken)))
+    (λ c. simp (eq-eqb _ _ (c .before .before .if1 .taken), le-ltb _ _ (c .if2 .left)))
     (λ c. simp (ne-eqb _ _ (c .if1 .left))))
