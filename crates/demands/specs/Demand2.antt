@@ -26,7 +26,8 @@ use Rattle.entry.specs.Numbers.{entryNumbers, bulk}
 use Rattle.entry.specs.declared.Entry.{Entry}
 use Rattle.entry.specs.declared.Settings.{Settings}
 use Rattle.entry.specs.Settings.{termsOf}
-use Rattle.entry.specs.Entry.{isLimit, isCancel, isBuy, isSell, malformed}
+use Rattle.entry.specs.Entry.{isLimit, isCancel, isBuy, isSell}
+use Rattle.entry.specs.Words.{WellFormed}
 use Rattle.checks.specs.TurnDown.{mightRest}
 use Rattle.judge.specs.Bound.{boundOf}
 use Rattle.lanes.specs.declared.Served.the-variants.{Lane}
@@ -102,7 +103,7 @@ submitRules m tenant count ns =
     noSettings m
     ∷ (1 if tenants ≤ tenant)
     ∷ (3 if ((1 ≤ count) × (count ≤ bulk) × (length ns ≡ entryNumbers * count) → ⊥))
-    ∷ (2 if ((j : ℕ) × (j < count) × (malformed (entryAt ns j) ≡ true)))
+    ∷ (2 if ((j : ℕ) × (j < count) × (WellFormed (entryAt ns j) → ⊥)))
     ∷ (4 if 64 < lenOf (m .session .lanes) tenant + count)
     ∷ []
 

@@ -119,7 +119,7 @@ three-say side s within low high = Iff·trans
     (λ ((on, some), price). (on, some, price), λ (on, some, price). ((on, some), price))
 
 module _ (m : Market) (p : ℕ) where
-  goes-says : (i : ℕ) → ((buyGoes (m .book) p i || sellGoes (m .book) p i) ≡ true) ↔ Cancelled m p i
+  pub goes-says : (i : ℕ) → ((buyGoes (m .book) p i || sellGoes (m .book) p i) ≡ true) ↔ Cancelled m p i
   unfolding buyGoes sellGoes
   goes-says i = ||-says
       (three-say (sideAt (m .book) i) 1 (withinBound (onceFilled m p) 1 p) (bestSell (onceFilled m p)) (priceAt (m .book) i))

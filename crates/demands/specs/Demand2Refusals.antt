@@ -30,6 +30,7 @@ use Rattle.entry.specs.Numbers.{entryNumbers, bulk, oneOrTwo, from1to}
 use Rattle.entry.specs.declared.Settings.{Settings}
 use Rattle.entry.specs.Settings.{seriesInRange, protectionsInRange, printsInRange, inRange}
 use Rattle.entry.specs.Entry.{malformed}
+use Rattle.entry.specs.Words.{WellFormed, malformed-says}
 use Rattle.lanes.specs.declared.Lanes.{Lanes}
 use Rattle.lanes.specs.declared.Served.the-variants.{Lane}
 use Rattle.lanes.specs.Ring.{entryAt, lenOf}
@@ -78,12 +79,12 @@ counted-says count ns = (
       f (leb-true _ _ least, leb-true _ _ most, eqb-true _ _ long))),
 )
 
-malformed-says : (count : ℕ) (ns : List ℕ) → (someMalformed count ns ≡ true) ↔ ((j : ℕ) × (j < count) × (malformed (entryAt ns j) ≡ true))
+some-malformed-says : (count : ℕ) (ns : List ℕ) → (someMalformed count ns ≡ true) ↔ ((j : ℕ) × (j < count) × (WellFormed (entryAt ns j) → ⊥))
 unfolding someMalformed
-malformed-says count ns =
+some-malformed-says count ns =
     let bad : ℕ → Bool = λ j. malformed (entryAt ns j) in (
-      λ h. (let l = ltb-true (firstTo bad count) count h in (firstTo bad count, l, first-holds bad count l)),
-      λ (j, l, e). lt-ltb (firstTo bad count) count (omega (arith, first-least bad count j l e)),
+      λ h. (let l = ltb-true (firstTo bad count) count h in (firstTo bad count, l, malformed-says (entryAt ns (firstTo bad count)) .0 (first-holds bad count l))),
+      λ (j, l, ill). lt-ltb (firstTo bad count) count (omega (arith, first-least bad count j l (malformed-says (entryAt ns j) .1 ill))),
     )
 
 submit-in-order : (m : Market) (tenant count : ℕ) (ns : List ℕ)
@@ -91,7 +92,7 @@ submit-in-order : (m : Market) (tenant count : ℕ) (ns : List ℕ)
 unfolding submitRefusal
 submit-in-order m tenant count ns =
     number-in-order 0 (submitCases (m .session) tenant count ns) (submitRules m tenant count ns) refl
-    (refl, not-says _, (refl, most-says _ _, (refl, counted-says count ns, (refl, malformed-says count ns, (refl, less-says _ _, tt)))))
+    (refl, not-says _, (refl, most-says _ _, (refl, counted-says count ns, (refl, some-malformed-says count ns, (refl, less-says _ _, tt)))))
     (call-code m _ _ (submit-came m tenant count ns))
 
 -- ---- turn

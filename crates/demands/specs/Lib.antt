@@ -37,4 +37,6 @@ pub mod OpenBook
 pub mod OpenBookProof
 pub mod Demand2Opening
 pub mod Demand2Proof
+pub mod Replay
+pub mod ReplayProof
 pub mod OneOutcome

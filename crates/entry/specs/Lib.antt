@@ -7,3 +7,4 @@ pub mod NumberLaws
 pub mod SettingsLaws
 pub mod EntryLaws
 pub mod QuoteLaws
+pub mod Words
