@@ -4,7 +4,7 @@ use mathlib.Core.Path.{_≡_, refl, sym, ap, _∙_, subst}
 use mathlib.Core.Logic.{_↔_, _⊎_, Iff·trans, ⊎-elim}
 use mathlib.Core.Bool.{Bool, true, false, _&&_, _||_}
 use mathlib.Core.List.{List, [], _∷_, _++_, append-nil}
-use Prim.Native.Nat.{ℕ, zero, suc, _-_, _<_}
+use Prim.Native.Nat.{ℕ, zero, suc, _≤_, _<_}
 use native.Mathlib.Omega.{arith}
 use lib.Dec.{ltb}
 use lib.ListN.{length}
@@ -109,11 +109,11 @@ module _ (m : Market) (p : ℕ) (next : ℕ) (sound : SoundBook (m .book) next) 
       let (above, (i, inside, stands)) = listed-in column (rises rows column 0) j h in
       let (holds, numbered) = kept-yes (cancelled b p i) (numberAt b i) n (sym (gone-is-cancelled b next p sound blank emptyRow i inside) ∙ (stands ∙ is)) (omega arith) in
       let (left, goes) = gone-says i .0 holds in
-      (i, rw (sound .places) inside, left, goes, numbered)
+      (i, omega (arith, inside, sound .places), left, goes, numbered)
 
   lists : (n : ℕ) → GoneRow n → Listed n (rising rows column 0)
   lists n (i, h, left, goes, numbered) =
-      let inside : i < rows = rw (sound .places) at h in
+      let inside : i < rows = omega (arith, h, sound .places) in
       let rests : 0 < sizeAt b i = omega (arith, left-is b p i h, left) in
       let row = row-of sound i h rests in
       let stands : at column i ≡ n = gone-is-cancelled b next p sound blank emptyRow i inside ∙ (ap (λ t. keep t (numberAt b i)) (gone-says i .1 (left, goes)) ∙ numbered) in
@@ -145,7 +145,9 @@ module _ (m : Market) where
 
   -- a book that is as it was has no orders gone
   alone : (l : Line) (row : List Fill) → openLineOf l ++ [] ++ goneLines (goneOf (m .book .sizes) (m .book .sizes) (m .book .numbers) row 0) ≡ openLineOf l
-  alone l row = ap (λ (ns : List ℕ). openLineOf l ++ ns) (no-lines (m .book .sizes) (m .book .numbers) row 0) ∙ append-nil (openLineOf l)
+  alone l row =
+      ap (λ (ns : List ℕ). openLineOf l ++ [] ++ ns) (no-lines (m .book .sizes) (m .book .numbers) row 0)
+      ∙ (append-nil (openLineOf l ++ []) ∙ append-nil (openLineOf l))
 
   prints-none : {d : OpenDone} → Outcome m rows blank d → (0 < printed (d .answer) .code) ⊎ (crosses (m .book) ≡ false) → told-of d ≡ openLineOf (printed (d .answer))
   unfolding openLines openAt openQuiet fillLines
