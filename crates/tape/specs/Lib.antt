@@ -8,4 +8,6 @@ pub mod Depth
 pub mod TapeLaws
 pub mod Leads
 pub mod Spelling
+pub mod Whole
+pub mod WholeLaws
 pub mod Examples

@@ -31,7 +31,7 @@ on-tape : (s : List ℕ) (at : ℕ) → at < length s → eventAt s at ≡ readi
 unfolding eventAt
 on-tape s at h = rw (lt-ltb at (length s) h)
 
-past-tape : (s : List ℕ) (at : ℕ) → length s ≤ at → eventAt s at ≡ End
+pub past-tape : (s : List ℕ) (at : ℕ) → length s ≤ at → eventAt s at ≡ End
 unfolding eventAt
 past-tape s at h = rw (le-ltb at (length s) h)
 
