@@ -5,6 +5,8 @@ pub mod Allocation
 pub mod AllocationLaws
 pub mod Records
 pub mod RecordLaws
+pub mod Fills
+pub mod FillsLaws
 pub mod Trading
 pub mod Sound
 pub mod Fit

@@ -24,15 +24,20 @@ use Rattle.book.specs.Book.{Book, bookOf, emptyBook}
 use Rattle.lines.specs.Laying.{Laid}
 use Rattle.session.specs.declared.Answered.{Answered}
 use Rattle.session.specs.declared.Opened.{Opened}
+use Rattle.session.specs.declared.Session.{Session}
 use Rattle.session.specs.declared.Turned.{Turned}
 use Rattle.dealing.specs.Floor.{Made}
 use Rattle.session.specs.Market.{Market, Called, marketOf}
-use Rattle.session.specs.Open.{OpenDone}
-use Rattle.session.specs.Turn.{TurnDone}
-use Rattle.fills.specs.declared.Fill.{Fill}
-use Rattle.fills.specs.Calls.{Stored, turnStored, turnWith, openStored, openWith}
+use Rattle.session.specs.Open.{OpenDone, printed as printedOpen}
+use Rattle.session.specs.Turn.{TurnDone, printed}
+use Rattle.book.specs.declared.Fill.{Fill}
+use Rattle.fills.specs.declared.on_row.OpenedRow.{OpenedRow}
+use Rattle.fills.specs.declared.on_row.TurnedRow.{TurnedRow}
+use Rattle.fills.specs.Calls.{Stored, emptyRow, turnStored, turnWith, openStored, openWith}
 use Rattle.fills.proofs.open as fills-open
 use Rattle.fills.proofs.turn as fills-turn
+use Rattle.fills.proofs.on_row.open_on_row as fills-open-on-row
+use Rattle.fills.proofs.on_row.turn_on_row as fills-turn-on-row
 use Rattle.fills.proofs.turn_fills.Reads as fills-turn-fills
 use Rattle.session.specs.Sound.{Sound}
 use Rattle.replay.proofs.events.event.Reads as replay-event
@@ -171,9 +176,9 @@ bookAt e = bookOf (e .0 .now) (e .1 .0 .now) (e .1 .1 .0 .now) (e .1 .1 .1 .0 .n
 abbrev pub matchLent : {X : Type 0} → Lent × (Lent × (Lent × (Lent × (Lent × X)))) → List (List ℕ)
 matchLent e = e .0 .now ∷ e .1 .1 .1 .0 .now ∷ e .1 .1 .1 .1 .0 .now ∷ []
 
--- the columns of a market, its lanes' entries, the records and the output, in a row
-abbrev pub marketLent : {X : Type 0} → Lent × (Lent × (Lent × (Lent × (Lent × (Lent × (Lent × (Lent × X))))))) → List (List ℕ)
-marketLent e = columns (bookAt e) (e .1 .1 .1 .1 .1 .0 .now ∷ e .1 .1 .1 .1 .1 .1 .0 .now ∷ e .1 .1 .1 .1 .1 .1 .1 .0 .now ∷ [])
+-- the columns of a market, its lanes' entries and the output, in a row
+abbrev pub marketLent : {X : Type 0} → Lent × (Lent × (Lent × (Lent × (Lent × (Lent × (Lent × X)))))) → List (List ℕ)
+marketLent e = columns (bookAt e) (e .1 .1 .1 .1 .1 .0 .now ∷ e .1 .1 .1 .1 .1 .1 .0 .now ∷ [])
 
 -- one list is left as it is told
 alone : {l l′ k : List ℕ} → l ≡ k → l′ ≡ k → _≡_ {A = List (List ℕ)} (l ∷ []) (l′ ∷ [])
@@ -582,29 +587,66 @@ one-session-open κs a z z′ e e′ p q =
 pub one-fills-turn-fills : OneResult fills-turn-fills.Post
 one-fills-turn-fills κs a z z′ e e′ = same
 
--- `turn` with a row of fills stands outside the covered forms, so its promise is read from its contract's clauses
+-- the calls with a row of fills stand outside the covered forms, so their promises are read from their contracts'
+-- clauses: what they say is that the market, the row and the answer are left as `TurnAs` and `OpenAs` have them
+abbrev pub TurnAs : Market → List Fill → Turned → Book → List ℕ → List Fill → Type 0
+TurnAs m row r b entries left = turnStored r b entries left ≡ turnWith m row
+
+abbrev pub OpenAs : Session → Book → List Fill → Opened → Book → List Fill → Type 0
+OpenAs s found row r b left = (entries : List ℕ) → openStored r b entries left ≡ openWith (marketOf s found entries) row
+
 pub fills-turn-promise : {M : Type 1} (𝓤 : URA.URA M) (H : Wp.Heap 𝓤) (A : Atoms.Atoms 𝓤) (mem : Memory.Memory → Logic.SProp 𝓤) (run : Routine.Routine → Monad.Fun 𝓤)
     (κs : Lifetimes.Lfts 7) (a : World.ArgsD fills-turn.signature κs) (z : World.ResD fills-turn.signature κs) (e : Clauses.AtExit fills-turn.ended κs)
     → fills-turn.clauses 𝓤 H A mem run κs a .ensures tt z e
     ≡ (Notation.connectives 𝓤) ._∗_
     ((Notation.connectives 𝓤) .⌜_⌝ (
-    turnStored z (bookAt (e .1)) (a .1 .1 .1 .1 .1 .1 .0 .now) (e .1 .1 .1 .1 .1 .1 .1 .0 .now)
-    ≡ turnWith (marketOf (a .0) (bookAt (a .1)) (a .1 .1 .1 .1 .1 .1 .0 .now)) (a .1 .1 .1 .1 .1 .1 .1 .0 .now)))
+    TurnAs (marketOf (a .0) (bookAt (a .1)) (a .1 .1 .1 .1 .1 .1 .0 .now)) (a .1 .1 .1 .1 .1 .1 .1 .0 .now)
+    z (bookAt (e .1)) (a .1 .1 .1 .1 .1 .1 .0 .now) (e .1 .1 .1 .1 .1 .1 .1 .0 .now)))
+    ((Notation.connectives 𝓤) ._∗_
     ((Notation.connectives 𝓤) .⌜_⌝ (Sound (marketOf (z .session) (bookAt (e .1)) (e .1 .1 .1 .1 .1 .1 .0 .now))))
+    ((Notation.connectives 𝓤) .⌜_⌝ (
+    printed (z .answer)
+    ≡ printed (turnWith (marketOf (a .0) (bookAt (a .1)) (a .1 .1 .1 .1 .1 .1 .0 .now)) (a .1 .1 .1 .1 .1 .1 .1 .0 .now) .answer))))
 fills-turn-promise 𝓤 H A mem run κs a z e = refl
 
--- and so is `open`'s
 pub fills-open-promise : {M : Type 1} (𝓤 : URA.URA M) (H : Wp.Heap 𝓤) (A : Atoms.Atoms 𝓤) (mem : Memory.Memory → Logic.SProp 𝓤) (run : Routine.Routine → Monad.Fun 𝓤)
     (κs : Lifetimes.Lfts 6) (a : World.ArgsD fills-open.signature κs) (z : World.ResD fills-open.signature κs) (e : Clauses.AtExit fills-open.ended κs)
     → fills-open.clauses 𝓤 H A mem run κs a .ensures tt z e
     ≡ (Notation.connectives 𝓤) ._∗_
-    ((Notation.connectives 𝓤) .⌜_⌝ (
-    (entries : List ℕ) →
-    openStored z (bookAt (e .1)) entries (e .1 .1 .1 .1 .1 .1 .0 .now)
-    ≡ openWith (marketOf (a .0) (bookAt (a .1)) entries) (a .1 .1 .1 .1 .1 .1 .0 .now)))
+    ((Notation.connectives 𝓤) .⌜_⌝ (OpenAs (a .0) (bookAt (a .1)) (a .1 .1 .1 .1 .1 .1 .0 .now) z (bookAt (e .1)) (e .1 .1 .1 .1 .1 .1 .0 .now)))
+    ((Notation.connectives 𝓤) ._∗_
     ((Notation.connectives 𝓤) .⌜_⌝ (
     (entries : List ℕ) → Sound (marketOf (a .0) (bookAt (a .1)) entries) → Sound (marketOf (z .session) (bookAt (e .1)) entries)))
+    ((Notation.connectives 𝓤) .⌜_⌝ (
+    (entries : List ℕ) → printedOpen (z .answer)
+    ≡ printedOpen (openWith (marketOf (a .0) (bookAt (a .1)) entries) (a .1 .1 .1 .1 .1 .1 .0 .now) .answer))))
 fills-open-promise 𝓤 H A mem run κs a z e = refl
+
+-- with a row of the call's own, which is empty
+pub fills-turn-on-row-promise : {M : Type 1} (𝓤 : URA.URA M) (H : Wp.Heap 𝓤) (A : Atoms.Atoms 𝓤) (mem : Memory.Memory → Logic.SProp 𝓤) (run : Routine.Routine → Monad.Fun 𝓤)
+    (κs : Lifetimes.Lfts 6) (a : World.ArgsD fills-turn-on-row.signature κs) (z : World.ResD fills-turn-on-row.signature κs) (e : Clauses.AtExit fills-turn-on-row.ended κs)
+    → fills-turn-on-row.clauses 𝓤 H A mem run κs a .ensures tt z e
+    ≡ (Notation.connectives 𝓤) ._∗_
+    ((Notation.connectives 𝓤) .⌜_⌝ (
+    TurnAs (marketOf (a .0) (bookAt (a .1)) (a .1 .1 .1 .1 .1 .1 .0 .now)) emptyRow (z .turned) (bookAt (e .1)) (a .1 .1 .1 .1 .1 .1 .0 .now) (z .row)))
+    ((Notation.connectives 𝓤) ._∗_
+    ((Notation.connectives 𝓤) .⌜_⌝ (Sound (marketOf (z .turned .session) (bookAt (e .1)) (e .1 .1 .1 .1 .1 .1 .0 .now))))
+    ((Notation.connectives 𝓤) .⌜_⌝ (
+    printed (z .turned .answer)
+    ≡ printed (turnWith (marketOf (a .0) (bookAt (a .1)) (a .1 .1 .1 .1 .1 .1 .0 .now)) emptyRow .answer))))
+fills-turn-on-row-promise 𝓤 H A mem run κs a z e = refl
+
+pub fills-open-on-row-promise : {M : Type 1} (𝓤 : URA.URA M) (H : Wp.Heap 𝓤) (A : Atoms.Atoms 𝓤) (mem : Memory.Memory → Logic.SProp 𝓤) (run : Routine.Routine → Monad.Fun 𝓤)
+    (κs : Lifetimes.Lfts 5) (a : World.ArgsD fills-open-on-row.signature κs) (z : World.ResD fills-open-on-row.signature κs) (e : Clauses.AtExit fills-open-on-row.ended κs)
+    → fills-open-on-row.clauses 𝓤 H A mem run κs a .ensures tt z e
+    ≡ (Notation.connectives 𝓤) ._∗_
+    ((Notation.connectives 𝓤) .⌜_⌝ (OpenAs (a .0) (bookAt (a .1)) emptyRow (z .opened) (bookAt (e .1)) (z .row)))
+    ((Notation.connectives 𝓤) ._∗_
+    ((Notation.connectives 𝓤) .⌜_⌝ (
+    (entries : List ℕ) → Sound (marketOf (a .0) (bookAt (a .1)) entries) → Sound (marketOf (z .opened .session) (bookAt (e .1)) entries)))
+    ((Notation.connectives 𝓤) .⌜_⌝ (
+    (entries : List ℕ) → printedOpen (z .opened .answer) ≡ printedOpen (openWith (marketOf (a .0) (bookAt (a .1)) entries) emptyRow .answer))))
+fills-open-on-row-promise 𝓤 H A mem run κs a z e = refl
 
 -- each of these equations is met by one outcome
 one-stored : {A : Type 0} {d d′ c : Stored A} → d ≡ c → d′ ≡ c
@@ -613,19 +655,35 @@ one-stored p q = let one = same p q in (λ i. one i .market .session, λ i. one 
 
 pub one-fills-turn :
     (m : Market) (row : List Fill) (r r′ : Turned) (b b′ : Book) (entries entries′ : List ℕ) (left left′ : List Fill) →
-    turnStored r b entries left ≡ turnWith m row → turnStored r′ b′ entries′ left′ ≡ turnWith m row →
+    TurnAs m row r b entries left → TurnAs m row r′ b′ entries′ left′ →
     (r ≡ r′) × (b ≡ b′) × (entries ≡ entries′) × (left ≡ left′)
 one-fills-turn m row r r′ b b′ entries entries′ left left′ p q =
     let (session, answer, book, waiting, fills) = one-stored p q in
     (λ i. record { session = session i; answer = answer i }, book, waiting, fills)
 
 pub one-fills-open :
-    (m : Market) (row : List Fill) (r r′ : Opened) (b b′ : Book) (entries entries′ : List ℕ) (left left′ : List Fill) →
-    openStored r b entries left ≡ openWith m row → openStored r′ b′ entries′ left′ ≡ openWith m row →
-    (r ≡ r′) × (b ≡ b′) × (entries ≡ entries′) × (left ≡ left′)
-one-fills-open m row r r′ b b′ entries entries′ left left′ p q =
-    let (session, answer, book, waiting, fills) = one-stored p q in
-    (λ i. record { session = session i; answer = answer i }, book, waiting, fills)
+    (s : Session) (found : Book) (row : List Fill) (r r′ : Opened) (b b′ : Book) (left left′ : List Fill) →
+    OpenAs s found row r b left → OpenAs s found row r′ b′ left′ →
+    (r ≡ r′) × (b ≡ b′) × (left ≡ left′)
+one-fills-open s found row r r′ b b′ left left′ p q =
+    let (session, answer, book, waiting, fills) = one-stored (p []) (q []) in
+    (λ i. record { session = session i; answer = answer i }, book, fills)
+
+pub one-fills-turn-on-row :
+    (m : Market) (r r′ : TurnedRow) (b b′ : Book) (entries entries′ : List ℕ) →
+    TurnAs m emptyRow (r .turned) b entries (r .row) → TurnAs m emptyRow (r′ .turned) b′ entries′ (r′ .row) →
+    (r ≡ r′) × (b ≡ b′) × (entries ≡ entries′)
+one-fills-turn-on-row m r r′ b b′ entries entries′ p q =
+    let (turned, book, waiting, row) = one-fills-turn m emptyRow (r .turned) (r′ .turned) b b′ entries entries′ (r .row) (r′ .row) p q in
+    (λ i. record { turned = turned i; row = row i }, book, waiting)
+
+pub one-fills-open-on-row :
+    (s : Session) (found : Book) (r r′ : OpenedRow) (b b′ : Book) →
+    OpenAs s found emptyRow (r .opened) b (r .row) → OpenAs s found emptyRow (r′ .opened) b′ (r′ .row) →
+    (r ≡ r′) × (b ≡ b′)
+one-fills-open-on-row s found r r′ b b′ p q =
+    let (opened, book, row) = one-fills-open s found emptyRow (r .opened) (r′ .opened) b b′ (r .row) (r′ .row) p q in
+    (λ i. record { opened = opened i; row = row i }, book)
 
 -- ---- replay
 
@@ -633,9 +691,8 @@ pub one-replay-event : OneOutcome replay-event.Post (λ e. marketLent (e .1 .1 .
 one-replay-event κs a z z′ e e′ p q =
     let m = same (p .market) (q .market) in
     let at = same (p .laid .end) (q .laid .end) in
-    let records = same (p .written) (q .written) in
     let out = same (p .laid .stored) (q .laid .stored) in
-    (λ i. record { session = m i .session; at = at i }, λ i. columns (m i .book) (m i .entries ∷ records i ∷ out i ∷ []))
+    (λ i. record { session = m i .session; at = at i }, λ i. columns (m i .book) (m i .entries ∷ out i ∷ []))
 
 pub one-replay-step : OneOutcome replay-step.Post (λ e. e .1 .1 .1 .1 .0 .now ∷ marketLent (e .1 .1 .1 .1 .1))
 one-replay-step κs a z z′ e e′ p q =
@@ -644,9 +701,8 @@ one-replay-step κs a z z′ e e′ p q =
     let from = same (p .next) (q .next) in
     let status = same (p .status) (q .status) in
     let given = same (p .given-is) (q .given-is) in
-    let records = same (p .written) (q .written) in
     let out = same (p .laid .stored) (q .laid .stored) in
-    (λ i. record { session = m i .session; at = at i; from = from i; status = status i }, λ i. given i ∷ columns (m i .book) (m i .entries ∷ records i ∷ out i ∷ []))
+    (λ i. record { session = m i .session; at = at i; from = from i; status = status i }, λ i. given i ∷ columns (m i .book) (m i .entries ∷ out i ∷ []))
 
 -- ---- window
 

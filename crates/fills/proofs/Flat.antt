@@ -44,11 +44,11 @@ use denote.Triple.Walked.{says}
 use Rattle.session.specs.declared.Session.{Session}
 use Rattle.session.proofs.Session as S
 use Rattle.session.proofs.Session.Laws as S′
-use Rattle.fills.specs.declared.Fill.{Fill}
-use Rattle.fills.specs.Fills.{stored, Fits}
+use Rattle.book.specs.declared.Fill.{Fill}
+use Rattle.book.specs.Fills.{stored, Fits}
 use Rattle.fills.specs.Calls.{blank}
 use Rattle.fills.proofs.LentArray.{array-is, array-laid, array-found}
-use Rattle.fills.proofs.Fill as F
+use Rattle.book.proofs.Fill as F
 use Rattle.fills.proofs.store_all as store-all
 
 -- the session, and a machine value of it
@@ -177,14 +177,24 @@ module _ {M : Type 1} {𝓤 : URA M} {H : Heap 𝓤} {A : Atoms 𝓤} {K : Type 
       split t $ move t (1 ∷ []) $ pick t (λ ws. split t $ move t (1 ∷ []) $ split t $ heard t (φ x ws) (λ f. heard t (ψ x ws) (λ g.
       move t (1 ∷ []) $ split t $ move t (1 ∷ []) $ peeks t R (Is R) (shows 𝓤 H A R) x (v ∷ []) (λ r. drop t $ k x ws f g r)))))
 
-  -- a call that counts is back: the count is n
-  pub told-count : K → Soaks G → {Q : SProp 𝓤} (n : ℕ) (v : Val) (E : ℕ → SProp 𝓤) → ((k : ℕ) → ent 𝓤 (E k) (fact 𝓤 (k ≡ n)))
-      → ent 𝓤 Q (mean 𝓤 H A (later (some (λ (k : ℕ). (‵ ftrue ⊛ ‵ (usize .own k (v ∷ []))) ⊛ raw (E k)))))
-      → ((k : ℕ) → k ≡ n → Is usize k (v ∷ []) → Seq K W Γ G) → Seq K W (raw Q ∷ Γ) G
-  told-count t z n v E says-n is s =
-      use1 W (later (some (λ (k : ℕ). (‵ ftrue ⊛ ‵ (usize .own k (v ∷ []))) ⊛ raw (E k)))) is $ await t z $ pick t (λ k.
-      split t $ move t (1 ∷ []) $ use1 W (raw (fact 𝓤 (k ≡ n))) (says-n k) $ heard t (k ≡ n) (λ e. split t $ drop t $
-      peeks t usize (Is usize) (shows 𝓤 H A usize) k (v ∷ []) (λ i. drop t $ s k e i)))
+  -- and one that promises three
+  pub told-three : K → Soaks G → {Q : SProp 𝓤} (R : RattleType) (v : Val) {L : Type 0} (T : Fml) (Ls : L → Fml) (φ ψ χ : R .Denot → L → Type 0)
+      → ent 𝓤 Q (mean 𝓤 H A (later (some (λ (x : R .Denot). (‵ T ⊛ ‵ (R .own x (v ∷ []))) ⊛ some (λ (ws : L). ‵ (Ls ws) ⊛ (raw (fact 𝓤 (φ x ws)) ⊛ (raw (fact 𝓤 (ψ x ws)) ⊛ raw (fact 𝓤 (χ x ws)))))))))
+      → ((x : R .Denot) (ws : L) → φ x ws → ψ x ws → χ x ws → Is R x (v ∷ []) → Seq K W (‵ T ∷ ‵ (Ls ws) ∷ Γ) G)
+      → Seq K W (raw Q ∷ Γ) G
+  told-three t z R v {L} T Ls φ ψ χ is k =
+      use1 W (later (some (λ (x : R .Denot). (‵ T ⊛ ‵ (R .own x (v ∷ []))) ⊛ some (λ (ws : L). ‵ (Ls ws) ⊛ (raw (fact 𝓤 (φ x ws)) ⊛ (raw (fact 𝓤 (ψ x ws)) ⊛ raw (fact 𝓤 (χ x ws)))))))) is $ await t z $ pick t (λ x.
+      split t $ move t (1 ∷ []) $ pick t (λ ws. split t $ move t (1 ∷ []) $ split t $ heard t (φ x ws) (λ f. split t $ heard t (ψ x ws) (λ g. heard t (χ x ws) (λ h.
+      move t (1 ∷ []) $ split t $ move t (1 ∷ []) $ peeks t R (Is R) (shows 𝓤 H A R) x (v ∷ []) (λ r. drop t $ k x ws f g h r))))))
+
+  -- a call with nothing lent is back, and what it answers is as it promises
+  pub told-one : K → Soaks G → {Q : SProp 𝓤} (R : RattleType) (v : Val) (E : R .Denot → SProp 𝓤) (φ : R .Denot → Type 0) → ((x : R .Denot) → ent 𝓤 (E x) (fact 𝓤 (φ x)))
+      → ent 𝓤 Q (mean 𝓤 H A (later (some (λ (x : R .Denot). (‵ ftrue ⊛ ‵ (R .own x (v ∷ []))) ⊛ raw (E x)))))
+      → ((x : R .Denot) → φ x → Is R x (v ∷ []) → Seq K W Γ G) → Seq K W (raw Q ∷ Γ) G
+  told-one t z R v E φ says-φ is s =
+      use1 W (later (some (λ (x : R .Denot). (‵ ftrue ⊛ ‵ (R .own x (v ∷ []))) ⊛ raw (E x)))) is $ await t z $ pick t (λ x.
+      split t $ move t (1 ∷ []) $ use1 W (raw (fact 𝓤 (φ x))) (says-φ x) $ heard t (φ x) (λ e. split t $ drop t $
+      peeks t R (Is R) (shows 𝓤 H A R) x (v ∷ []) (λ i. drop t $ s x e i)))
 
   -- `store_all` is back: the first fills of the row are those of the flat records
   told-store : K → Soaks G → (at-mem : Memory → SProp 𝓤) (run : Routine → Fun 𝓤) (κ : Lft) (q : Share) (x : RefT (List Fill)) (n μ l : ℕ) (ε : GName) (rs : List ℕ) (v : Val)

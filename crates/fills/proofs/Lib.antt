@@ -1,3 +1,5 @@
 pub mod Flat
 pub mod LentArray
-pub mod Two
+pub mod LentRow
+pub mod OwnRow
+pub mod Several

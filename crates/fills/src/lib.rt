@@ -1,4 +1,7 @@
 // The calls turn and open with their fill records lent as a row of structs.
+pub mod on_row;
+
+use book::Fill;
 use book::Records;
 use book::records::FIELDS;
 use lanes::Entries;
@@ -16,21 +19,13 @@ ghost use mathlib.Core.Path.{_≡_};
 ghost use mathlib.Core.List.{List};
 ghost use Prim.Native.Nat.{ℕ, _*_, _<_};
 ghost use Rattle.rows.specs.Rows.{rows};
+ghost use Rattle.book.specs.Fills.{fillAt, stored, Fits};
 ghost use Rattle.book.specs.Lent.{given, before, after};
 ghost use Rattle.session.specs.Market.{marketOf, marketLent, marketFound, marketLeft};
 ghost use Rattle.session.specs.Sound.{Sound, BookSound};
-ghost use Rattle.session.specs.Turn.{fillsIn};
-ghost use Rattle.session.specs.Open.{fillsIn as fillsOpened};
-ghost use Rattle.fills.specs.Fills.{fillAt, stored, Fits};
+ghost use Rattle.session.specs.Turn.{printed, fillsIn};
+ghost use Rattle.session.specs.Open.{printed as printedOpen, fillsIn as fillsOpened};
 ghost use Rattle.fills.specs.Calls.{turnStored, turnWith, openStored, openWith};
-
-// One fill: order number, tenant, quantity, price.
-pub struct Fill {
-    pub number: u32,
-    pub tenant: u32,
-    pub quantity: Contracts,
-    pub price: Cents,
-}
 
 // The fill whose four numbers stand at place i of the flat records.
 fn record_at(records: &Records, i: usize) -> Fill
@@ -97,6 +92,8 @@ pub fn turn(
     ensures exact { λ r. ⌜ turnStored r (after sides prices sizes owners numbers) (now (entries .entry)) (now (fills .exit))
         ≡ turnWith (marketFound s sides prices sizes owners numbers entries) (now (fills .entry)) ⌝ }
     ensures sound { λ r. ⌜ Sound (marketLeft (r .session) sides prices sizes owners numbers entries) ⌝ }
+    ensures values { λ r. ⌜ printed (r .answer)
+        ≡ printed (turnWith (marketFound s sides prices sizes owners numbers entries) (now (fills .entry)) .answer) ⌝ }
 {
     let mut records = [0u32; 864];
     let turned = turn_core(
@@ -130,6 +127,8 @@ pub fn open(
         ≡ openWith (marketOf s (before sides prices sizes owners numbers) entries) (now (fills .entry))) ⌝ }
     ensures sound { λ r. ⌜ ((entries : List ℕ) → Sound (marketOf s (before sides prices sizes owners numbers) entries)
         → Sound (marketOf (r .session) (after sides prices sizes owners numbers) entries)) ⌝ }
+    ensures values { λ r. ⌜ ((entries : List ℕ) → printedOpen (r .answer)
+        ≡ printedOpen (openWith (marketOf s (before sides prices sizes owners numbers) entries) (now (fills .entry)) .answer)) ⌝ }
 {
     let mut records = [0u32; 864];
     let opened = open_core(

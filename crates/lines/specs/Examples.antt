@@ -1,12 +1,13 @@
 -- Lines as they are printed: those of the worked example, and the longest numbers.
 use mathlib.Core.Path.{_≡_, refl}
 use mathlib.Core.List.{List, [], _∷_}
-use Prim.Native.Nat.{ℕ}
 use Rattle.lines.specs.Decimal.{spelled, decimal}
-use Rattle.lines.specs.Lines.{spaced, setLine, awayLine, submitLine, turnLine, refusedLine, openLine, recordLine, goneLine, tapeLine, endLine}
+use Rattle.lines.specs.Lines.{spaced, setLine, awayLine, submitLine, turnLine, refusedLine, openLine, fillLineOf, goneLine, tapeLine, endLine}
 use Rattle.lines.specs.Gone.{filledOf, goneOrder}
+use Rattle.units.specs.Units.{cents, contracts}
 use Rattle.units.specs.Sums.{sumTo}
 use Rattle.units.specs.Picked.{same}
+use Rattle.book.specs.declared.Fill.{Fill}
 
 -- the worked example, line by line; `submit 0` stands in it twice
 -- `set 0`
@@ -35,7 +36,7 @@ unfolding spaced decimal spelled
 second-turn = refl
 
 -- `fill 1 2 3 100`
-pub its-fill : recordLine (1 ∷ 2 ∷ 3 ∷ 100 ∷ []) 0 ≡ 102 ∷ 105 ∷ 108 ∷ 108 ∷ 32 ∷ 49 ∷ 32 ∷ 50 ∷ 32 ∷ 51 ∷ 32 ∷ 49 ∷ 48 ∷ 48 ∷ 10 ∷ []
+pub its-fill : fillLineOf (record { number = 1; tenant = 2; quantity = contracts 3; price = cents 100 }) ≡ 102 ∷ 105 ∷ 108 ∷ 108 ∷ 32 ∷ 49 ∷ 32 ∷ 50 ∷ 32 ∷ 51 ∷ 32 ∷ 49 ∷ 48 ∷ 48 ∷ 10 ∷ []
 unfolding spaced decimal spelled
 its-fill = refl
 
@@ -65,8 +66,11 @@ unfolding spaced decimal spelled
 bad-number = refl
 
 -- E11: #1 bought 4 of its 5 and is then cancelled; #3 sold its 4 and is filled whole; #2 and #4 trade nothing, and rest
-abbrev fills-of-e11 : List ℕ
-fills-of-e11 = 1 ∷ 0 ∷ 4 ∷ 105 ∷ 3 ∷ 1 ∷ 4 ∷ 105 ∷ []
+abbrev fills-of-e11 : List Fill
+fills-of-e11 =
+    record { number = 1; tenant = 0; quantity = contracts 4; price = cents 105 }
+    ∷ record { number = 3; tenant = 1; quantity = contracts 4; price = cents 105 }
+    ∷ []
 
 pub e11-first : goneOrder fills-of-e11 2 5 0 1 ≡ 1
 unfolding goneOrder filledOf sumTo same

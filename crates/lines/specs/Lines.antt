@@ -1,21 +1,9 @@
 -- What the program prints: a word, numbers each after a space, and a newline, in ASCII.
-use mathlib.Core.List.{List, [], _++_}
-use Prim.Native.Nat.{ℕ, _+_, _*_}
-use mathlib.Core.Bool.{cond}
-use lib.Dec.{ltb}
-use Rattle.rows.specs.Rows.{rows}
-use Rattle.units.specs.Places.{at}
-use Rattle.book.specs.RecordSums.{tenantIn, quantityIn}
-use Rattle.book.specs.Records.{fields}
+use mathlib.Core.List.{List, _++_}
+use Prim.Native.Nat.{ℕ}
+use Rattle.book.specs.declared.Fill.{Fill}
 use Rattle.lines.specs.Letters.{letters}
 use Rattle.lines.specs.Decimal.{decimal}
-
--- the order number and the price of record k, in the lent numbers
-abbrev pub numberIn : List ℕ → ℕ → ℕ
-numberIn records k = at records (fields * k)
-
-abbrev pub priceIn : List ℕ → ℕ → ℕ
-priceIn records k = at records (fields * k + 3)
 
 -- Every line ends in it.
 abbrev pub newline : List ℕ
@@ -50,15 +38,14 @@ refusedLine code = letters "refused" ++ spaced code ++ newline
 abbrev pub openLine : ℕ → ℕ → ℕ → List ℕ
 openLine code price volume = letters "open" ++ spaced code ++ spaced price ++ spaced volume ++ newline
 
--- `fill N T Q P`: a fill record's order number, tenant, quantity and price
+-- `fill N T Q P`: a fill's order number, tenant, quantity and price
 abbrev pub fillLine : ℕ → ℕ → ℕ → ℕ → List ℕ
 fillLine number tenant quantity price =
     letters "fill" ++ spaced number ++ spaced tenant ++ spaced quantity ++ spaced price ++ newline
 
--- the line of record k of the fill records, four numbers to a record; past the last place there is none
-abbrev pub recordLine : List ℕ → ℕ → List ℕ
-recordLine records k =
-    cond (ltb k rows) (fillLine (numberIn records k) (tenantIn records k) (quantityIn records k) (priceIn records k)) []
+-- the line of a fill
+abbrev pub fillLineOf : Fill → List ℕ
+fillLineOf f = fillLine (f .number) (f .tenant) (f .quantity .0) (f .price .0)
 
 -- A line `gone N` for each order that an opening cancelled.
 abbrev pub goneLine : ℕ → List ℕ

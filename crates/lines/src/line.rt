@@ -4,15 +4,15 @@ use crate::parts::long_number;
 use crate::parts::newline;
 use crate::parts::number;
 use crate::parts::word;
-use book::Records;
-use book::records::FIELDS;
-use rows::ROWS;
+use book::Fill;
+use units::Cents;
+use units::Contracts;
 ghost use mathlib.Core.List.{_++_};
 ghost use Prim.Native.Nat.{_≤_};
 ghost use lib.ListN.{length};
 ghost use Rattle.lines.specs.Lines.{newline as Lines·newline, spaced};
 ghost use Rattle.lines.specs.Lines.{setLine, awayLine, submitLine, turnLine, refusedLine};
-ghost use Rattle.lines.specs.Lines.{openLine, fillLine, recordLine, goneLine, tapeLine, endLine};
+ghost use Rattle.lines.specs.Lines.{openLine, fillLineOf, goneLine, tapeLine, endLine};
 ghost use Rattle.lines.specs.Laying.{longest, longestWord, Room, Laid};
 
 // A word and one number.
@@ -57,17 +57,17 @@ pub fn turn_line(
     tenant: u32,
     code: u32,
     order: u32,
-    filled: u32,
+    filled: Contracts,
     disposition: u32,
 ) -> usize
     requires { ⌜ Room (now out) at longest ⌝ }
-    ensures { λ r. ⌜ Laid (now (out .entry)) at (turnLine tenant code order filled disposition) longest (now (out .exit)) r ⌝ }
+    ensures { λ r. ⌜ Laid (now (out .entry)) at (turnLine tenant code order (filled .0) disposition) longest (now (out .exit)) r ⌝ }
 {
     let a = word(out, at, b"turn");
     let b = number(out, a, tenant);
     let c = number(out, b, code);
     let d = number(out, c, order);
-    let e = number(out, d, filled);
+    let e = number(out, d, filled.0);
     let f = number(out, e, disposition);
     newline(out, f)
 }
@@ -81,48 +81,28 @@ pub fn refused_line(out: &mut Output, at: usize, code: u32) -> usize
 }
 
 // An opening: `open C P V`.
-pub fn open_line(out: &mut Output, at: usize, code: u32, price: u32, volume: u32) -> usize
+pub fn open_line(out: &mut Output, at: usize, code: u32, price: Cents, volume: Contracts) -> usize
     requires { ⌜ Room (now out) at longest ⌝ }
-    ensures { λ r. ⌜ Laid (now (out .entry)) at (openLine code price volume) longest (now (out .exit)) r ⌝ }
+    ensures { λ r. ⌜ Laid (now (out .entry)) at (openLine code (price .0) (volume .0)) longest (now (out .exit)) r ⌝ }
 {
     let a = word(out, at, b"open");
     let b = number(out, a, code);
-    let c = number(out, b, price);
-    let d = number(out, c, volume);
+    let c = number(out, b, price.0);
+    let d = number(out, c, volume.0);
     newline(out, d)
 }
 
 // A fill: `fill N T Q P`.
-fn fill(out: &mut Output, at: usize, order: u32, tenant: u32, quantity: u32, price: u32) -> usize
+pub fn fill_line(out: &mut Output, at: usize, f: Fill) -> usize
     requires { ⌜ Room (now out) at longest ⌝ }
-    ensures { λ r. ⌜ Laid (now (out .entry)) at (fillLine order tenant quantity price) longest (now (out .exit)) r ⌝ }
+    ensures { λ r. ⌜ Laid (now (out .entry)) at (fillLineOf f) longest (now (out .exit)) r ⌝ }
 {
     let a = word(out, at, b"fill");
-    let b = number(out, a, order);
-    let c = number(out, b, tenant);
-    let d = number(out, c, quantity);
-    let e = number(out, d, price);
+    let b = number(out, a, f.number);
+    let c = number(out, b, f.tenant);
+    let d = number(out, c, f.quantity.0);
+    let e = number(out, d, f.price.0);
     newline(out, e)
-}
-
-// Record k of the fill records; past the last place there is none, and nothing is laid out.
-pub fn fill_line(out: &mut Output, at: usize, records: &Records, k: usize) -> usize
-    requires { ⌜ Room (now out) at longest ⌝ }
-    ensures { λ r. ⌜ Laid (now (out .entry)) at (recordLine (now (records .entry)) k) longest (now (out .exit)) r ⌝ }
-{
-    if k < ROWS {
-        let first = FIELDS * k;
-        fill(
-            out,
-            at,
-            records[first],
-            records[first + 1],
-            records[first + 2],
-            records[first + 3],
-        )
-    } else {
-        at
-    }
 }
 
 // An order that the opening cancelled: `gone N`.

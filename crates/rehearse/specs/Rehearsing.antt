@@ -7,8 +7,6 @@ use Prim.Native.Nat.{ℕ, _+_, _*_, _-_, _≤_, _<_}
 use native.Mathlib.Omega.{arith}
 use lib.ListN.{length, take}
 use lib.Seq.{length-take-le}
-use Rattle.rows.specs.Rows.{rows}
-use Rattle.book.specs.Records.{fields}
 use Rattle.lines.specs.Laying.{output}
 use Rattle.entry.specs.Numbers.{bulkNumbers}
 use Rattle.tape.specs.Depth.{mostBytes}
@@ -32,9 +30,8 @@ farthest = 9223372036854775808
 
 -- how the program stands before each turn of its loop: the market is sound, the bytes printed lie in the output, those
 -- at hand in the window, and places of the tape cannot overflow in the turns that are left
-pub record Rehearsing (m : Market) (records given window out : List ℕ) (at from to base turns : ℕ) : Type 0 where
+pub record Rehearsing (m : Market) (given window out : List ℕ) (at from to base turns : ℕ) : Type 0 where
   pub sound : Sound m
-  pub records-long : length records ≡ fields * rows
   pub given-long : length given ≡ bulkNumbers
   pub window-long : length window ≡ windowLong
   pub out-long : length out ≡ output
@@ -46,13 +43,12 @@ pub record Rehearsing (m : Market) (records given window out : List ℕ) (at fro
 pub fewer : (turns : ℕ) → 0 < turns → turns - 1 < turns
 fewer turns h = omega arith
 
-module _ {m : Market} {records given window out : List ℕ} {at from to base turns : ℕ} (r : Rehearsing m records given window out at from to base turns) where
+module _ {m : Market} {given window out : List ℕ} {at from to base turns : ℕ} (r : Rehearsing m given window out at from to base turns) where
   pub reads :
       0 < turns → {next : List ℕ} {filled : Filled} → Refilled window from to base next filled →
-      Rehearsing m records given next out at 0 (filled .to) (filled .base) (turns - 1)
+      Rehearsing m given next out at 0 (filled .to) (filled .base) (turns - 1)
   reads h {next} {filled} f = record {
     sound = r .sound;
-    records-long = r .records-long;
     given-long = r .given-long;
     window-long = f .long ∙ r .window-long;
     out-long = r .out-long;
@@ -62,10 +58,9 @@ module _ {m : Market} {records given window out : List ℕ} {at from to base tur
     bounded = omega (arith, r .bounded, r .begun, r .within, f .place);
   }
 
-  pub writes : 0 < turns → Rehearsing m records given window out 0 from to base (turns - 1)
+  pub writes : 0 < turns → Rehearsing m given window out 0 from to base (turns - 1)
   writes h = record {
     sound = r .sound;
-    records-long = r .records-long;
     given-long = r .given-long;
     window-long = r .window-long;
     out-long = r .out-long;
@@ -83,10 +78,9 @@ module _ {m : Market} {records given window out : List ℕ} {at from to base tur
   pub enough-at-hand : {more : Bool} → isShort from to more mostBytes ≡ false → (from + mostBytes ≤ length (take to window)) ⊎ (more ≡ false)
   enough-at-hand {more} h = ⊎-elim (λ k. inl (omega (arith, at-hand, r .begun, k))) inr (enough from to more mostBytes h)
 
-  pub can-step : longestEvent ≤ output - at → CanReplay m records out at
+  pub can-step : longestEvent ≤ output - at → CanReplay m out at
   can-step h = record {
     sound = r .sound;
-    records-long = r .records-long;
     room = record { long = r .out-long; fits = omega (arith, r .printed) };
   }
 
@@ -94,12 +88,11 @@ module _ {m : Market} {records given window out : List ℕ} {at from to base tur
   place-fits = omega (arith, at-hand, r .bounded, r .within)
 
   pub steps :
-      0 < turns → longestEvent ≤ output - at → {p : Step} {s : Reached} {after : Market} {numbers written lent : List ℕ} →
-      StepsTo p (take to window) from out at s after numbers written lent → length numbers ≡ bulkNumbers →
-      Rehearsing after written numbers window lent (s .at) (s .from) to base (turns - 1)
+      0 < turns → longestEvent ≤ output - at → {p : Step} {s : Reached} {after : Market} {numbers lent : List ℕ} →
+      StepsTo p (take to window) from out at s after numbers lent → length numbers ≡ bulkNumbers →
+      Rehearsing after numbers window lent (s .at) (s .from) to base (turns - 1)
   steps h room {s = s} d same = record {
     sound = d .sound;
-    records-long = d .records-long;
     given-long = same;
     window-long = r .window-long;
     out-long = d .laid .long;

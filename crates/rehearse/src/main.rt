@@ -74,7 +74,6 @@ fn main() {
     let mut owners = [0u32; 216];
     let mut numbers = [0u32; 216];
     let mut entries = [0u32; ALL_ENTRIES];
-    let mut records = [0u32; 864];
     let mut given = [0u32; BULK_NUMBERS];
     let mut window = io::large_buffer();
     let mut out = io::large_buffer();
@@ -110,7 +109,6 @@ fn main() {
                 &mut owners,
                 &mut numbers,
                 &mut entries,
-                &mut records,
                 &mut out,
                 at,
             );

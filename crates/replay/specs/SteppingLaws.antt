@@ -25,74 +25,68 @@ pub refused-fits :
 refused-fits bytes from base code p x is told h =
     ⊎-elim (λ l. omega arith) (λ e. omega (arith, e .0)) (refused-place bytes from code p (sym is ∙ told) .1)
 
-module _ (m : Market) (bytes : List ℕ) (from base : ℕ) (given was : List ℕ) (out : List ℕ) (start : ℕ) (x : Reading) (is : x ≡ eventAt bytes from)
+module _ (m : Market) (bytes : List ℕ) (from base : ℕ) (given : List ℕ) (out : List ℕ) (start : ℕ) (x : Reading) (is : x ≡ eventAt bytes from)
     (numbers : List ℕ) (kept : numbers ≡ entriesAfter bytes from given) where
   pub step-read :
-      (e : Event) (end : ℕ) (r : code.Reached) (after : Market) (records lent : List ℕ) → x ≡ Read e end →
-      Replayed (eventPrinted m e numbers was) out start after records lent (r .at) → r .from ≡ end → r .status ≡ going →
-      StepsTo (stepOf m bytes from base given was) bytes from out start r after numbers records lent
+      (e : Event) (end : ℕ) (r : code.Reached) (after : Market) (lent : List ℕ) → x ≡ Read e end →
+      Replayed (eventPrinted m e numbers) out start after lent (r .at) → r .from ≡ end → r .status ≡ going →
+      StepsTo (stepOf m bytes from base given) bytes from out start r after numbers lent
   unfolding stepOf
-  step-read e end r after records lent told done next goes =
+  step-read e end r after lent told done next goes =
       let read : eventAt bytes from ≡ Read e end = sym is ∙ told in
       rw (read, ← kept) record {
         market = done .market;
         given-is = refl;
-        written = done .written;
         laid = done .laid;
         next = next;
         status = goes;
         sound = done .sound;
-        records-long = done .records-long;
         on-tape = λ h. omega (arith, place bytes from e end read .1);
       }
 
-  module _ (can : CanReplay m was out start) (r : code.Reached) (lent : List ℕ) (stays : r .from ≡ from) where
+  module _ (can : CanReplay m out start) (r : code.Reached) (lent : List ℕ) (stays : r .from ≡ from) where
     pub step-refused :
         (code p : ℕ) → x ≡ Refused code p → Laid out start (tapeLine code (base + p)) longest lent (r .at) → r .status ≡ refused →
-        StepsTo (stepOf m bytes from base given was) bytes from out start r m numbers was lent
+        StepsTo (stepOf m bytes from base given) bytes from out start r m numbers lent
     unfolding stepOf
     step-refused code p told laid stops =
         let read : eventAt bytes from ≡ Refused code p = sym is ∙ told in
         rw (read, ← kept) record {
           market = refl;
           given-is = refl;
-          written = refl;
           laid = laid-within out start (omega arith) laid;
           next = stays;
           status = stops;
           sound = can .sound;
-          records-long = can .records-long;
           on-tape = λ h. omega arith;
         }
 
     pub step-end :
         x ≡ End → Laid out start endLine longest lent (r .at) → r .status ≡ ended →
-        StepsTo (stepOf m bytes from base given was) bytes from out start r m numbers was lent
+        StepsTo (stepOf m bytes from base given) bytes from out start r m numbers lent
     unfolding stepOf
     step-end told laid stops =
         let read : eventAt bytes from ≡ End = sym is ∙ told in
         rw (read, ← kept) record {
           market = refl;
           given-is = refl;
-          written = refl;
           laid = laid-within out start (omega arith) laid;
           next = stays;
           status = stops;
           sound = can .sound;
-          records-long = can .records-long;
           on-tape = λ h. omega arith;
         }
 
 -- The step in a window is the tape's: with the bytes of the longest event at hand, or all that the tape has, it prints
 -- and makes the same, and the place of the next event is the window's, counted from the tape's start.
 pub buffered-step :
-    (m : Market) (front buffer rest : List ℕ) (at : ℕ) (given was : List ℕ) → (at + mostBytes ≤ length buffer) ⊎ (rest ≡ []) →
-    (stepOf m (front ++ (buffer ++ rest)) (length front + at) 0 given was .printed ≡ stepOf m buffer at (length front) given was .printed) ×
-    (stepOf m (front ++ (buffer ++ rest)) (length front + at) 0 given was .given ≡ stepOf m buffer at (length front) given was .given) ×
-    (stepOf m (front ++ (buffer ++ rest)) (length front + at) 0 given was .from ≡ length front + stepOf m buffer at (length front) given was .from) ×
-    (stepOf m (front ++ (buffer ++ rest)) (length front + at) 0 given was .status ≡ stepOf m buffer at (length front) given was .status)
+    (m : Market) (front buffer rest : List ℕ) (at : ℕ) (given : List ℕ) → (at + mostBytes ≤ length buffer) ⊎ (rest ≡ []) →
+    (stepOf m (front ++ (buffer ++ rest)) (length front + at) 0 given .printed ≡ stepOf m buffer at (length front) given .printed) ×
+    (stepOf m (front ++ (buffer ++ rest)) (length front + at) 0 given .given ≡ stepOf m buffer at (length front) given .given) ×
+    (stepOf m (front ++ (buffer ++ rest)) (length front + at) 0 given .from ≡ length front + stepOf m buffer at (length front) given .from) ×
+    (stepOf m (front ++ (buffer ++ rest)) (length front + at) 0 given .status ≡ stepOf m buffer at (length front) given .status)
 unfolding stepOf
-buffered-step m front buffer rest at given was enough =
+buffered-step m front buffer rest at given enough =
     let same = buffered front buffer rest at enough in
     rw (same .0, same .1 given) (go (eventAt buffer at))
   where
@@ -101,10 +95,10 @@ buffered-step m front buffer rest at given was enough =
 
     go :
         (x : Reading) →
-        (stepBy m (length front + at) 0 numbers was (moved (length front) x) .printed ≡ stepBy m at (length front) numbers was x .printed) ×
-        (stepBy m (length front + at) 0 numbers was (moved (length front) x) .given ≡ stepBy m at (length front) numbers was x .given) ×
-        (stepBy m (length front + at) 0 numbers was (moved (length front) x) .from ≡ length front + stepBy m at (length front) numbers was x .from) ×
-        (stepBy m (length front + at) 0 numbers was (moved (length front) x) .status ≡ stepBy m at (length front) numbers was x .status)
+        (stepBy m (length front + at) 0 numbers (moved (length front) x) .printed ≡ stepBy m at (length front) numbers x .printed) ×
+        (stepBy m (length front + at) 0 numbers (moved (length front) x) .given ≡ stepBy m at (length front) numbers x .given) ×
+        (stepBy m (length front + at) 0 numbers (moved (length front) x) .from ≡ length front + stepBy m at (length front) numbers x .from) ×
+        (stepBy m (length front + at) 0 numbers (moved (length front) x) .status ≡ stepBy m at (length front) numbers x .status)
     go (Read e end) = (refl, refl, refl, refl)
     go (Refused code p) = let z : 0 + (length front + p) ≡ length front + p = omega arith in (rw z refl, refl, refl, refl)
     go End = (refl, refl, refl, refl)

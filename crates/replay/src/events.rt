@@ -2,32 +2,27 @@
 use crate::Stepped;
 use crate::listing::open_lines;
 use crate::listing::turn_lines;
-use book::Records;
 use entry::Away;
 use entry::ENTRY_NUMBERS;
 use entry::Settings;
+use fills::on_row::open_on_row;
+use fills::on_row::turn_on_row;
 use lanes::Entries;
 use lines::Output;
 use lines::line::away_line;
 use lines::line::set_line;
 use lines::line::submit_line;
 use rows::Column;
-use rows::ROWS;
 use session::Session;
 use session::away::away;
-use session::open::open_core;
 use session::settings::settings;
 use session::submit::submit;
-use session::turn::turn_core;
 use tape::Event;
 ghost use mathlib.Core.Path.{_≡_};
 ghost use mathlib.Core.List.{List};
 ghost use Prim.Native.Nat.{ℕ, _*_, min};
-ghost use lib.ListN.{length};
-ghost use Rattle.rows.specs.Rows.{rows};
 ghost use Rattle.book.specs.Book.{Book};
 ghost use Rattle.book.specs.Lent.{given as givenBook, before, after};
-ghost use Rattle.book.specs.Records.{fields};
 ghost use Rattle.lines.specs.Laying.{Room};
 ghost use Rattle.entry.specs.Numbers.{entryNumbers};
 ghost use Rattle.session.specs.Market.{marketOf, marketLent, marketFound, marketLeft};
@@ -47,10 +42,9 @@ fn settings_event(
     out: &mut Output,
     at: usize,
 ) -> Stepped
-    requires { ⌜ Room (now out) at longestEvent ⌝ }
-    ensures { λ r. ⌜ ((was : List ℕ) → CanReplay (marketFound s sides prices sizes owners numbers entries) was (now (out .entry)) at
-        → Replayed (settingsPrinted (marketFound s sides prices sizes owners numbers entries) given was)
-        (now (out .entry)) at (marketLeft (r .session) sides prices sizes owners numbers entries) was (now (out .exit)) (r .at)) ⌝ }
+    requires { ⌜ CanReplay (marketLent s sides prices sizes owners numbers entries) (now out) at ⌝ }
+    ensures { λ r. ⌜ Replayed (settingsPrinted (marketFound s sides prices sizes owners numbers entries) given)
+        (now (out .entry)) at (marketLeft (r .session) sides prices sizes owners numbers entries) (now (out .exit)) (r .at) ⌝ }
 {
     let done = settings(s, given, sides, prices, sizes, owners, numbers, entries);
     let end = set_line(out, at, done.code);
@@ -63,8 +57,8 @@ fn settings_event(
 
 fn away_event(s: Session, quote: Away, out: &mut Output, at: usize) -> Stepped
     requires { ⌜ Room (now out) at longestEvent ⌝ }
-    ensures { λ r. ⌜ ((b : Book) (entries was : List ℕ) → CanReplay (marketOf s b entries) was (now (out .entry)) at
-        → Replayed (awayPrinted (marketOf s b entries) quote was) (now (out .entry)) at (marketOf (r .session) b entries) was (now (out .exit)) (r .at)) ⌝ }
+    ensures { λ r. ⌜ ((b : Book) (entries : List ℕ) → CanReplay (marketOf s b entries) (now (out .entry)) at
+        → Replayed (awayPrinted (marketOf s b entries) quote) (now (out .entry)) at (marketOf (r .session) b entries) (now (out .exit)) (r .at)) ⌝ }
 {
     let bid = quote.bid;
     let offer = quote.offer;
@@ -96,9 +90,9 @@ fn submit_event(
 ) -> Stepped
     requires { ⌜ LanesSound s (now entries) ⌝ }
     requires { ⌜ Room (now out) at longestEvent ⌝ }
-    ensures { λ r. ⌜ ((b : Book) (was : List ℕ) → CanReplay (marketOf s b (now (entries .entry))) was (now (out .entry)) at
-        → Replayed (submitPrinted (marketOf s b (now (entries .entry))) tenant count (now (given .entry)) was)
-        (now (out .entry)) at (marketOf (r .session) b (now (entries .exit))) was (now (out .exit)) (r .at)) ⌝ }
+    ensures { λ r. ⌜ ((b : Book) → CanReplay (marketOf s b (now (entries .entry))) (now (out .entry)) at
+        → Replayed (submitPrinted (marketOf s b (now (entries .entry))) tenant count (now (given .entry)))
+        (now (out .entry)) at (marketOf (r .session) b (now (entries .exit))) (now (out .exit)) (r .at)) ⌝ }
 {
     let n = numbers_of(count, given.len());
     let done = submit(s, tenant, count, &given[..n], entries);
@@ -118,28 +112,19 @@ fn turn_event(
     owners: &mut Column,
     numbers: &mut Column,
     entries: &Entries,
-    records: &mut Records,
     out: &mut Output,
     at: usize,
 ) -> Stepped
-    requires { ⌜ CanReplay (marketLent s sides prices sizes owners numbers entries) (now records) (now out) at ⌝ }
-    ensures { λ r. ⌜ Replayed (turnPrinted (marketFound s sides prices sizes owners numbers entries) (now (records .entry)))
-        (now (out .entry)) at (marketLeft (r .session) sides prices sizes owners numbers entries) (now (records .exit)) (now (out .exit)) (r .at) ⌝ }
+    requires { ⌜ CanReplay (marketLent s sides prices sizes owners numbers entries) (now out) at ⌝ }
+    ensures { λ r. ⌜ Replayed (turnPrinted (marketFound s sides prices sizes owners numbers entries))
+        (now (out .entry)) at (marketLeft (r .session) sides prices sizes owners numbers entries) (now (out .exit)) (r .at) ⌝ }
 {
-    let done = turn_core(
-        s,
-        sides,
-        prices,
-        sizes,
-        owners,
-        numbers,
-        entries,
-        ROWS,
-        records,
-    );
-    let answer = done.answer;
-    let end = turn_lines(answer, records, out, at);
-    let after = done.session;
+    let done = turn_on_row(s, sides, prices, sizes, owners, numbers, entries);
+    let turned = done.turned;
+    let answer = turned.answer;
+    let row = done.row;
+    let end = turn_lines(answer, row, out, at);
+    let after = turned.session;
     Stepped {
         session: after,
         at: end,
@@ -153,23 +138,22 @@ fn open_event(
     sizes: &mut Column,
     owners: &Column,
     numbers: &Column,
-    records: &mut Records,
     out: &mut Output,
     at: usize,
 ) -> Stepped
     requires { ⌜ BookSound s (givenBook sides prices sizes owners numbers) ⌝ }
-    requires { ⌜ length (now records) ≡ fields * rows ⌝ }
     requires { ⌜ Room (now out) at longestEvent ⌝ }
-    ensures { λ r. ⌜ ((entries : List ℕ) → CanReplay (marketOf s (before sides prices sizes owners numbers) entries)
-        (now (records .entry)) (now (out .entry)) at
-        → Replayed (openPrinted (marketOf s (before sides prices sizes owners numbers) entries) (now (records .entry)))
-        (now (out .entry)) at (marketOf (r .session) (after sides prices sizes owners numbers) entries) (now (records .exit)) (now (out .exit)) (r .at)) ⌝ }
+    ensures { λ r. ⌜ ((entries : List ℕ) → CanReplay (marketOf s (before sides prices sizes owners numbers) entries) (now (out .entry)) at
+        → Replayed (openPrinted (marketOf s (before sides prices sizes owners numbers) entries))
+        (now (out .entry)) at (marketOf (r .session) (after sides prices sizes owners numbers) entries) (now (out .exit)) (r .at)) ⌝ }
 {
     let before = *sizes;
-    let done = open_core(s, sides, prices, sizes, owners, numbers, ROWS, records);
-    let answer = done.answer;
-    let end = open_lines(answer, &before, sizes, numbers, records, out, at);
-    let after = done.session;
+    let done = open_on_row(s, sides, prices, sizes, owners, numbers);
+    let opened = done.opened;
+    let answer = opened.answer;
+    let row = done.row;
+    let end = open_lines(answer, &before, sizes, numbers, row, out, at);
+    let after = opened.session;
     Stepped {
         session: after,
         at: end,
@@ -187,13 +171,12 @@ pub fn event(
     owners: &mut Column,
     numbers: &mut Column,
     entries: &mut Entries,
-    records: &mut Records,
     out: &mut Output,
     at: usize,
 ) -> Stepped
-    requires { ⌜ CanReplay (marketLent s sides prices sizes owners numbers entries) (now records) (now out) at ⌝ }
-    ensures { λ r. ⌜ Replayed (eventPrinted (marketFound s sides prices sizes owners numbers entries) e (now (given .entry)) (now (records .entry)))
-        (now (out .entry)) at (marketLeft (r .session) sides prices sizes owners numbers entries) (now (records .exit)) (now (out .exit)) (r .at) ⌝ }
+    requires { ⌜ CanReplay (marketLent s sides prices sizes owners numbers entries) (now out) at ⌝ }
+    ensures { λ r. ⌜ Replayed (eventPrinted (marketFound s sides prices sizes owners numbers entries) e (now (given .entry)))
+        (now (out .entry)) at (marketLeft (r .session) sides prices sizes owners numbers entries) (now (out .exit)) (r .at) ⌝ }
 {
     match e {
         Event::Settings(asked) => settings_event(
@@ -210,18 +193,7 @@ pub fn event(
         ),
         Event::Away(quote) => away_event(s, quote, out, at),
         Event::Submit(tenant, count) => submit_event(s, tenant, count, given, entries, out, at),
-        Event::Turn => turn_event(
-            s,
-            sides,
-            prices,
-            sizes,
-            owners,
-            numbers,
-            entries,
-            records,
-            out,
-            at,
-        ),
-        Event::Open => open_event(s, sides, prices, sizes, owners, numbers, records, out, at),
+        Event::Turn => turn_event(s, sides, prices, sizes, owners, numbers, entries, out, at),
+        Event::Open => open_event(s, sides, prices, sizes, owners, numbers, out, at),
     }
 }

@@ -1,6 +1,5 @@
 // One step along a tape: the event at a place is run and printed, or the tape's last line is.
 use crate::events::event;
-use book::Records;
 use lanes::Entries;
 use lines::Output;
 use lines::line::end_line;
@@ -45,16 +44,15 @@ pub fn step(
     owners: &mut Column,
     numbers: &mut Column,
     entries: &mut Entries,
-    records: &mut Records,
     out: &mut Output,
     at: usize,
 ) -> Reached
-    requires { ⌜ CanReplay (marketLent s sides prices sizes owners numbers entries) (now records) (now out) at ⌝ }
+    requires { ⌜ CanReplay (marketLent s sides prices sizes owners numbers entries) (now out) at ⌝ }
     requires { ⌜ base + length (now bytes) < 18446744073709551616 ⌝ }
     ensures { λ r. ⌜ StepsTo
-        (stepOf (marketFound s sides prices sizes owners numbers entries) (now (bytes .entry)) from base (now (given .entry)) (now (records .entry)))
+        (stepOf (marketFound s sides prices sizes owners numbers entries) (now (bytes .entry)) from base (now (given .entry)))
         (now (bytes .entry)) from (now (out .entry)) at r
-        (marketLeft (r .session) sides prices sizes owners numbers entries) (now (given .exit)) (now (records .exit)) (now (out .exit)) ⌝ }
+        (marketLeft (r .session) sides prices sizes owners numbers entries) (now (given .exit)) (now (out .exit)) ⌝ }
 {
     let reading = tape::events::event(bytes, from, given);
     match reading {
@@ -69,7 +67,6 @@ pub fn step(
                 owners,
                 numbers,
                 entries,
-                records,
                 out,
                 at,
             );

@@ -1,72 +1,17 @@
-// The worked example of the paper, each turn called with a row of fills that is lent; the fills of both turns are
-// printed.
+// The worked example of the paper, call by call, each turn and the open with a row of fills of its own; the fills of both
+// turns are printed.
+use book::Fill;
 use entry::Settings;
-use fills::Fill;
-use fills::turn;
+use fills::on_row::TurnedRow;
+use fills::on_row::open_on_row;
+use fills::on_row::turn_on_row;
 use fills::turn_fills;
 use lanes::ALL_ENTRIES;
-use lanes::Entries;
 use libc::STDOUT_FILENO;
-use rows::Column;
 use session::Session;
-use session::Turned;
-use session::open::open_core;
 use session::settings::settings;
 use session::submit::submit;
 use units::Cents;
-use units::Contracts;
-ghost use mathlib.Core.Path.{_≡_};
-ghost use Rattle.book.specs.Lent.{after};
-ghost use Rattle.session.specs.Market.{marketLent, marketFound, marketLeft};
-ghost use Rattle.session.specs.Sound.{Sound};
-ghost use Rattle.fills.specs.Calls.{turnStored, turnWith};
-
-// What a turn answered, and the row of fills that it left.
-pub struct Shown {
-    pub turned: Turned,
-    pub row: [Fill; 216],
-}
-
-fn beside(turned: Turned, row: [Fill; 216]) -> Shown
-    ensures { λ r. ⌜ r ≡ record { turned = turned; row = row } ⌝ }
-{
-    Shown {
-        turned: turned,
-        row: row,
-    }
-}
-
-// A row of one's own is lent to a turn, and returned with what the turn left there.
-fn on_row(
-    s: Session,
-    sides: &mut Column,
-    prices: &mut Column,
-    sizes: &mut Column,
-    owners: &mut Column,
-    numbers: &mut Column,
-    entries: &Entries,
-    fills: [Fill; 216],
-) -> Shown
-    requires { ⌜ Sound (marketLent s sides prices sizes owners numbers entries) ⌝ }
-    ensures exact { λ r. ⌜ turnStored (r .turned) (after sides prices sizes owners numbers) (now (entries .entry)) (r .row)
-        ≡ turnWith (marketFound s sides prices sizes owners numbers entries) fills ⌝ }
-    ensures sound { λ r. ⌜ Sound (marketLeft (r .turned .session) sides prices sizes owners numbers entries) ⌝ }
-{
-    let mut row = fills;
-    let turned = turn(s, sides, prices, sizes, owners, numbers, entries, &mut row);
-    beside(turned, row)
-}
-
-// Fills with nothing in them.
-fn no_fills() -> [Fill; 216] {
-    let none = Fill {
-        number: 0,
-        tenant: 0,
-        quantity: Contracts(0),
-        price: Cents(0),
-    };
-    [none; 216]
-}
 
 // Time class, grid 1, a call at 10000, D 10, F 20, x 10, least 25, greatest 500, no prints.
 fn worked() -> Settings {
@@ -100,9 +45,9 @@ fn show_fill(f: Fill) {
 }
 
 // The fills that the turn wrote.
-fn show(shown: Shown) {
-    let turned = shown.turned;
-    let row = shown.row;
+fn show(done: TurnedRow) {
+    let turned = done.turned;
+    let row = done.row;
     let count = turn_fills(turned);
     let mut i: usize = 0;
     while i < 216 {
@@ -120,7 +65,6 @@ fn main() {
     let mut owners = [0u32; 216];
     let mut numbers = [0u32; 216];
     let mut entries = [0u32; ALL_ENTRIES];
-    let mut records = [0u32; 864];
     let buy = [1u32, 1, 1, 100, 5, 0];
     let sell = [1u32, 2, 2, 100, 3, 0];
     let set = settings(
@@ -133,19 +77,11 @@ fn main() {
         &mut numbers,
         &mut entries,
     );
-    let opened = open_core(
-        set.session,
-        &sides,
-        &prices,
-        &mut sizes,
-        &owners,
-        &numbers,
-        216,
-        &mut records,
-    );
+    let quiet = open_on_row(set.session, &sides, &prices, &mut sizes, &owners, &numbers);
+    let opened = quiet.opened;
     let buys = submit(opened.session, 2, 1, &buy, &mut entries);
     let sells = submit(buys.session, 7, 1, &sell, &mut entries);
-    let first = on_row(
+    let first = turn_on_row(
         sells.session,
         &mut sides,
         &mut prices,
@@ -153,11 +89,10 @@ fn main() {
         &mut owners,
         &mut numbers,
         &entries,
-        no_fills(),
     );
     show(first);
     let turned = first.turned;
-    let second = on_row(
+    let second = turn_on_row(
         turned.session,
         &mut sides,
         &mut prices,
@@ -165,7 +100,6 @@ fn main() {
         &mut owners,
         &mut numbers,
         &entries,
-        no_fills(),
     );
     show(second);
 }

@@ -47,19 +47,20 @@ use denote.Signature.{plain, shrRefTo}
 use Rattle.book.specs.Book.{Book, bookOf}
 use Rattle.session.specs.declared.Session.{Session}
 use Rattle.session.specs.declared.Opened.{Opened}
+use Rattle.session.specs.declared.OpenAnswer.{OpenAnswer}
 use Rattle.session.specs.Market.{marketOf}
 use Rattle.session.specs.Sound.{Sound, BookSound}
-use Rattle.session.specs.Open.{openOf, fillsIn, openDone}
-use Rattle.fills.specs.declared.Fill.{Fill}
-use Rattle.fills.specs.Fills.{stored, Fits}
-use Rattle.fills.specs.Calls.{openStored, openWith}
-use Rattle.fills.specs.CallsLaws.{open-told}
+use Rattle.session.specs.Open.{openOf, printed, fillsIn, openDone}
+use Rattle.book.specs.declared.Fill.{Fill}
+use Rattle.book.specs.Fills.{stored, Fits}
+use Rattle.fills.specs.Calls.{Stored, openStored, openWith}
+use Rattle.fills.specs.CallsLaws.{open-few, open-within, all-told}
 use Rattle.session.proofs.Session as S
 use Rattle.session.proofs.Session.Laws as S′
 use Rattle.session.proofs.Opened as T
 use Rattle.session.proofs.Opened.Laws as T′
-use Rattle.fills.proofs.Flat.{RS, mach-of, A-216, L-216, ptr-of, RF, AR, zeros, typed-0, typed-of, xr, slice-of, StoreAll, lends-flat, flat-back, shares-flat, flat-whole, told-two, told-count, stores}
-use Rattle.fills.proofs.Two.{says-two}
+use Rattle.fills.proofs.Flat.{RS, mach-of, A-216, L-216, ptr-of, RF, AR, zeros, typed-0, typed-of, xr, slice-of, StoreAll, lends-flat, flat-back, shares-flat, flat-whole, told-two, told-one, stores}
+use Rattle.fills.proofs.Several.{says-two, says-three}
 use Rattle.session.proofs.open.open_core as open-core
 use Rattle.session.proofs.open.open_core.Symbol as open-core-def
 use Rattle.session.proofs.open.open_core.Symbol.{name as #session·open·open-core}
@@ -133,11 +134,14 @@ module _ {M : Type 1} (𝓤 : URA M) (H : Heap 𝓤) (A : Atoms 𝓤) (W : Given
   abbrev Told : Opened → Each → List Fill → Type 0
   Told t w zs = (entries : List ℕ) → openStored t (after w) entries zs ≡ openWith (marketOf h before entries) ys
 
-  fits : (t : Opened) (w : Each) (rs : List ℕ) (n : ℕ) → Exact t w rs → n ≡ fillsIn (t .answer) → Fits n ys
-  fits t w rs n e k = open-told (marketOf h before []) ys t (after w) [] rs n refl (e []) k .0
-
-  told : (t : Opened) (w : Each) (rs : List ℕ) (n : ℕ) (zs : List Fill) → Exact t w rs → n ≡ fillsIn (t .answer) → zs ≡ stored rs n ys → Told t w zs
-  told t w rs n zs e k z = λ entries. subst (λ (zs : List Fill). openStored t (after w) entries zs ≡ openWith (marketOf h before entries) ys) (sym z) (open-told (marketOf h before entries) ys t (after w) entries rs n refl (e entries) k .1)
+  -- the fills fit the row, and stored they make the open with that row
+  stored-so : (t : Opened) (w : Each) (rs : List ℕ) (n : ℕ) → Exact t w rs → n ≡ fillsIn (t .answer) → Fits n ys × Told t w (stored rs n ys)
+  stored-so t w rs n e k = (so [] .0, λ entries. so entries .1)
+    where
+      so : (entries : List ℕ) → Fits n ys × (openStored t (after w) entries (stored rs n ys) ≡ openWith (marketOf h before entries) ys)
+      so entries =
+          let m = marketOf h before entries in
+          all-told fillsIn ys (openDone t (after w) entries rs) (openOf m (length ys) zeros) n (open-few m (length ys) zeros) (open-within m (length ys) zeros refl) (e entries) k
 
   abbrev Post : Val → SProp 𝓤
   Post = walkOf 𝓤 H A this.ended stayed (this.clauses 𝓤 H A at-mem run) .post (((κ₀, (κ₁, (κ₂, (κ₃, (κ₄, (κ₅, tt)))))), (q₀, (q₁, (q₂, (q₃, (q₄, (q₅, tt)))))), tt, a, vals), tt)
@@ -208,7 +212,7 @@ module _ {M : Type 1} (𝓤 : URA M) (H : Heap 𝓤) (A : Atoms 𝓤) (W : Given
       → ent 𝓤 (sep 𝓤 (sem 𝓤 H A (Left w)) (sep 𝓤 (A .lft κ₅ q₅) (sep 𝓤 (sem 𝓤 H A (finally RF (x .name) zs)) (sem 𝓤 H A (RT .own t (v ∷ [])))))) (Post v)
   exits t v w zs e e′ l =
       qed W (‵ (Left w) ∷ ‵ (flft κ₅ q₅) ∷ ‵ (finally RF (x .name) zs) ∷ ‵ (RT .own t (v ∷ [])) ∷ []) ∵
-      suffices ! _ (ends-at 𝓤 H A this.ended stayed (this.clauses 𝓤 H A at-mem run) W (((κ₀, (κ₁, (κ₂, (κ₃, (κ₄, (κ₅, tt)))))), (q₀, (q₁, (q₂, (q₃, (q₄, (q₅, tt)))))), tt, a, vals), tt) v t (tt, (tt, (tt, (w .0, (tt, (tt, (zs, tt))))))) (tt, (tt, (tt, (tt, (tt, (tt, (l, tt)))))))) $ says-two ! e e′ $
+      suffices ! _ (ends-at 𝓤 H A this.ended stayed (this.clauses 𝓤 H A at-mem run) W (((κ₀, (κ₁, (κ₂, (κ₃, (κ₄, (κ₅, tt)))))), (q₀, (q₁, (q₂, (q₃, (q₄, (q₅, tt)))))), tt, a, vals), tt) v t (tt, (tt, (tt, (w .0, (tt, (tt, (zs, tt))))))) (tt, (tt, (tt, (tt, (tt, (tt, (l, tt)))))))) $ says-three ! e e′ (λ entries. ap (λ (d : Stored OpenAnswer). printed (d .answer)) (e entries)) $
       fsplit ! $ move ! (1 ∷ []) $ fsplit ! $ move ! (1 ∷ []) $ fsplit ! $ move ! (1 ∷ []) $ fsplit ! $ move ! (1 ∷ []) $ fsplit ! $ nothing ! $ nothing ! $ nothing ! $ nothing ! $ nothing ! $ nothing ! $ nothing ! $
       -- [true6; true5; true4; true3; true2; true1; true0; token of numbers; sizes; token of owners; token of sizes;
       -- token of prices; token of sides; row's token; row; result]
@@ -243,7 +247,7 @@ module _ {M : Type 1} (𝓤 : URA M) (H : Heap 𝓤) (A : Atoms 𝓤) (W : Given
         -- `open_fills`
         use0 W (raw (Count 𝓤 H A at-mem run .pre (to-count t v))) (goes-count t v is-t) $
         calls-at ! fm (Count 𝓤 H A at-mem run) known-count (to-count t v) (and-then ! (load ! (from ! (stop !)) (look ! 19 refl)) (no-more !)) (λ z.
-        told-count ! tt (fillsIn (t .answer)) z (λ k. ensured 𝓤 H A open-fills.ended (open-fills.clauses 𝓤 H A at-mem run) tt (t, tt) tt k) (count-of 𝓤 H A at-mem run t) (id⊢ 𝓤 _) (λ k ek is-k.
+        told-one ! tt usize z (λ k. ensured 𝓤 H A open-fills.ended (open-fills.clauses 𝓤 H A at-mem run) tt (t, tt) tt k) (λ k. k ≡ fillsIn (t .answer)) (count-of 𝓤 H A at-mem run t) (id⊢ 𝓤 _) (λ k ek is-k.
         land ! (from ! (stop !)) (init ! 16 refl (uint-lawful 𝓤 H A W w64 .typed k (z ∷ []) is-k .0)) $ rewrite ! 16 (λ (u : Val). ‵ (fat fullShare (tyInt w64) l₁₀ 0 u)) (ap only (uint-tells w64 k (z ∷ []) is-k)) refl $
         assigns ! (addr ! (from ! (fld ! refl (hop ! (look-in ! 21 (sub ! 0 refl (whole !))) (stop !))))) (from ! (stop !)) (init ! 6 refl (tt, tt)) $
         assigns ! (agg ! (and-then ! (load ! (from ! (stop !)) (look ! 6 refl)) (and-then ! (load ! (from ! (fld ! refl (stop !))) (look-in ! 21 (sub ! 1 refl (whole !)))) (no-more !)))) (from ! (stop !)) (init ! 4 refl (tt, (tt, (record { fits = room .0 }, tt)))) $
@@ -252,7 +256,7 @@ module _ {M : Type 1} (𝓤 : URA M) (H : Heap 𝓤) (A : Atoms 𝓤) (W : Given
         shares-flat ! tt (named 1) l₈ (last ws) (λ μ ε.
         -- [the flat records, shared; the lender's part; μ's token; the columns, left; the locals; the row's token; what
         -- the row owns]
-        move ! (39 ∷ 40 ∷ 2 ∷ 0 ∷ []) $ stores ! fm at-mem run known-store κ₅ q₅ x k μ l₈ ε (last ws) (fits t (each ws) (last ws) k ec ek) (and-then ! (load ! (from ! (stop !)) (look ! 5 refl)) (and-then ! (load ! (from ! (stop !)) (look ! 3 refl)) (and-then ! (load ! (from ! (stop !)) (look ! 17 refl)) (no-more !)))) (λ y zs ez len eu.
+        move ! (39 ∷ 40 ∷ 2 ∷ 0 ∷ []) $ stores ! fm at-mem run known-store κ₅ q₅ x k μ l₈ ε (last ws) (stored-so t (each ws) (last ws) k ec ek .0) (and-then ! (load ! (from ! (stop !)) (look ! 5 refl)) (and-then ! (load ! (from ! (stop !)) (look ! 3 refl)) (and-then ! (load ! (from ! (stop !)) (look ! 17 refl)) (no-more !)))) (λ y zs ez len eu.
         -- [the row's token; μ's token; the last row; the lender's part; the columns, left; the locals]
         land ! (from ! (stop !)) (init ! 11 refl (subst (λ (b : Val). Holds (hasTy tyUnit b) × WT b) (sym (ap only eu)) (tt, tt))) $
         -- the local is whole again
@@ -265,7 +269,7 @@ module _ {M : Type 1} (𝓤 : URA M) (H : Heap 𝓤) (A : Atoms 𝓤) (W : Given
         move ! (38 ∷ 39 ∷ []) $ free1 ! $ move ! (36 ∷ 37 ∷ []) $ free1 ! $ move ! (34 ∷ 35 ∷ []) $ free1 ! $ move ! (32 ∷ 33 ∷ []) $ free1 ! $ move ! (30 ∷ 31 ∷ []) $ free1 ! $ move ! (28 ∷ 29 ∷ []) $ free1 ! $ move ! (26 ∷ 27 ∷ []) $ free1 ! $ move ! (24 ∷ 25 ∷ []) $ free1 ! $
         move ! (1 ∷ 23 ∷ []) $ free1 ! $
         move ! (20 ∷ 21 ∷ []) $ free1 ! $ move ! (18 ∷ 19 ∷ []) $ free1 ! $ move ! (16 ∷ 17 ∷ []) $ free1 ! $ move ! (14 ∷ 15 ∷ []) $ free1 ! $ move ! (12 ∷ 13 ∷ []) $ free1 ! $ move ! (10 ∷ 11 ∷ []) $ free1 ! $ move ! (8 ∷ 9 ∷ []) $ free1 ! $ move ! (6 ∷ 7 ∷ []) $ free1 ! $ move ! (4 ∷ 5 ∷ []) $ free1 ! $ free0 ! $
-        keep ! (3 ∷ 1 ∷ 2 ∷ 0 ∷ []) $ by ! (exits t v (each ws) zs (told t (each ws) (last ws) k zs ec ek ez) es len))))))))))))))))))))))))))
+        keep ! (3 ∷ 1 ∷ 2 ∷ 0 ∷ []) $ by ! (exits t v (each ws) zs (subst (Told t (each ws)) (sym ez) (stored-so t (each ws) (last ws) k ec ek .1)) es len))))))))))))))))))))))))))
 
 module _ {M : Type 1} (𝓤 : URA M) (H : Heap 𝓤) (A : Atoms 𝓤) (W : Given 𝓤 H A) (at-mem : Memory → SProp 𝓤) (run : Routine → Fun 𝓤) where
   open-walks : (C : Calls 𝓤 H) (Λ : Loops 𝓤 H) → FmC 𝓤 H (W .laws) C → Triple 𝓤 (C #session·open·open-core) (Core 𝓤 H A at-mem run) → Triple 𝓤 (C #fills·open-fills) (Count 𝓤 H A at-mem run) → Triple 𝓤 (C #fills·store-all) (StoreAll 𝓤 H A at-mem run)

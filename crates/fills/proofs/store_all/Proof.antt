@@ -51,11 +51,11 @@ use denote.Triple.Table.{entered, cited}
 use denote.Triple.Walked.{says, needs, Stays, stay-slice, stay-dropped, walkOf, AllGo, goes-slice, goes-dropped, Walks, ends-at, walked, walk-meets}
 use denote.Exit.{yes}
 use denote.Signature.{Slot, plain, shrRefTo}
-use Rattle.fills.specs.declared.Fill.{Fill}
-use Rattle.fills.specs.Fills.{fillAt, stored}
-use Rattle.fills.specs.FillsLaws.{next-row, row-length}
-use Rattle.fills.proofs.Fill as T
-use Rattle.fills.proofs.Fill.Laws as T′
+use Rattle.book.specs.declared.Fill.{Fill}
+use Rattle.book.specs.Fills.{fillAt, stored}
+use Rattle.book.specs.FillsLaws.{next-row, row-length}
+use Rattle.book.proofs.Fill as T
+use Rattle.book.proofs.Fill.Laws as T′
 use Rattle.fills.proofs.record_at as record-at
 use Rattle.fills.proofs.record_at.Symbol as record-at-def
 use Rattle.fills.proofs.record_at.Symbol.{name as #fills·record-at}

@@ -48,19 +48,20 @@ use denote.Signature.{Slot, plain, shrRefTo}
 use Rattle.book.specs.Book.{Book, bookOf}
 use Rattle.session.specs.declared.Session.{Session}
 use Rattle.session.specs.declared.Turned.{Turned}
+use Rattle.session.specs.declared.TurnAnswer.{TurnAnswer}
 use Rattle.session.specs.Market.{marketOf}
 use Rattle.session.specs.Sound.{Sound}
-use Rattle.session.specs.Turn.{turnDone, turnOf, fillsIn}
-use Rattle.fills.specs.declared.Fill.{Fill}
-use Rattle.fills.specs.Fills.{stored, Fits}
-use Rattle.fills.specs.Calls.{turnStored, turnWith}
-use Rattle.fills.specs.CallsLaws.{turn-told}
+use Rattle.session.specs.Turn.{turnDone, turnOf, printed, fillsIn}
+use Rattle.book.specs.declared.Fill.{Fill}
+use Rattle.book.specs.Fills.{stored, Fits}
+use Rattle.fills.specs.Calls.{Stored, turnStored, turnWith}
+use Rattle.fills.specs.CallsLaws.{turn-few, turn-within, all-told}
 use Rattle.session.proofs.Session as S
 use Rattle.session.proofs.Session.Laws as S′
 use Rattle.session.proofs.Turned as T
 use Rattle.session.proofs.Turned.Laws as T′
-use Rattle.fills.proofs.Flat.{RS, mach-of, A-216, L-216, ptr-of, RF, AR, zeros, typed-0, typed-of, xr, slice-of, StoreAll, lends-flat, flat-back, shares-flat, flat-whole, told-two, told-count, stores}
-use Rattle.fills.proofs.Two.{says-two}
+use Rattle.fills.proofs.Flat.{RS, mach-of, A-216, L-216, ptr-of, RF, AR, zeros, typed-0, typed-of, xr, slice-of, StoreAll, lends-flat, flat-back, shares-flat, flat-whole, told-two, told-one, stores}
+use Rattle.fills.proofs.Several.{says-two, says-three}
 use Rattle.session.proofs.turn.turn_core as turn-core
 use Rattle.session.proofs.turn.turn_core.Symbol as turn-core-def
 use Rattle.session.proofs.turn.turn_core.Symbol.{name as #session·turn·turn-core}
@@ -141,11 +142,11 @@ module _ {M : Type 1} (𝓤 : URA M) (H : Heap 𝓤) (A : Atoms 𝓤) (W : Given
   abbrev Told : Turned → Each → List Fill → Type 0
   Told t w zs = turnStored t (after w) (x₅ .now) zs ≡ turnWith (marketOf h before (x₅ .now)) ys
 
-  fits : (t : Turned) (w : Each) (rs : List ℕ) (n : ℕ) → Exact t w rs → n ≡ fillsIn (t .answer) → Fits n ys
-  fits t w rs n e k = turn-told (marketOf h before (x₅ .now)) ys t (after w) (x₅ .now) rs n refl e k .0
-
-  told : (t : Turned) (w : Each) (rs : List ℕ) (n : ℕ) (zs : List Fill) → Exact t w rs → n ≡ fillsIn (t .answer) → zs ≡ stored rs n ys → Told t w zs
-  told t w rs n zs e k z = subst (λ (zs : List Fill). turnStored t (after w) (x₅ .now) zs ≡ turnWith (marketOf h before (x₅ .now)) ys) (sym z) (turn-told (marketOf h before (x₅ .now)) ys t (after w) (x₅ .now) rs n refl e k .1)
+  -- the fills fit the row, and stored they make the turn with that row
+  stored-so : (t : Turned) (w : Each) (rs : List ℕ) (n : ℕ) → Exact t w rs → n ≡ fillsIn (t .answer) → Fits n ys × Told t w (stored rs n ys)
+  stored-so t w rs n e k =
+      let m = marketOf h before (x₅ .now) in
+      all-told fillsIn ys (turnDone t (after w) (x₅ .now) rs) (turnOf m (length ys) zeros) n (turn-few m (length ys) zeros) (turn-within m (length ys) zeros refl) e k
 
   abbrev Post : Val → SProp 𝓤
   Post = walkOf 𝓤 H A this.ended stayed (this.clauses 𝓤 H A at-mem run) .post (((κ₀, (κ₁, (κ₂, (κ₃, (κ₄, (κ₅, (κ₆, tt))))))), (q₀, (q₁, (q₂, (q₃, (q₄, (q₅, (q₆, tt))))))), tt, a, vals), tt)
@@ -216,7 +217,7 @@ module _ {M : Type 1} (𝓤 : URA M) (H : Heap 𝓤) (A : Atoms 𝓤) (W : Given
       → ent 𝓤 (sep 𝓤 (sem 𝓤 H A (Left w)) (sep 𝓤 (A .lft κ₆ q₆) (sep 𝓤 (sem 𝓤 H A (finally RF (x .name) zs)) (sem 𝓤 H A (RT .own t (v ∷ [])))))) (Post v)
   exits t v w zs e e′ l =
       qed W (‵ (Left w) ∷ ‵ (flft κ₆ q₆) ∷ ‵ (finally RF (x .name) zs) ∷ ‵ (RT .own t (v ∷ [])) ∷ []) ∵
-      suffices ! _ (ends-at 𝓤 H A this.ended stayed (this.clauses 𝓤 H A at-mem run) W (((κ₀, (κ₁, (κ₂, (κ₃, (κ₄, (κ₅, (κ₆, tt))))))), (q₀, (q₁, (q₂, (q₃, (q₄, (q₅, (q₆, tt))))))), tt, a, vals), tt) v t (tt, (w .0, (w .1 .0, (w .1 .1 .0, (w .1 .1 .1 .0, (w .1 .1 .1 .1 .0, (tt, (zs, tt)))))))) (tt, (tt, (tt, (tt, (tt, (tt, (tt, (l, tt))))))))) $ says-two ! e e′ $
+      suffices ! _ (ends-at 𝓤 H A this.ended stayed (this.clauses 𝓤 H A at-mem run) W (((κ₀, (κ₁, (κ₂, (κ₃, (κ₄, (κ₅, (κ₆, tt))))))), (q₀, (q₁, (q₂, (q₃, (q₄, (q₅, (q₆, tt))))))), tt, a, vals), tt) v t (tt, (w .0, (w .1 .0, (w .1 .1 .0, (w .1 .1 .1 .0, (w .1 .1 .1 .1 .0, (tt, (zs, tt)))))))) (tt, (tt, (tt, (tt, (tt, (tt, (tt, (l, tt))))))))) $ says-three ! e e′ (ap (λ (d : Stored TurnAnswer). printed (d .answer)) e) $
       fsplit ! $ move ! (1 ∷ []) $ fsplit ! $ move ! (1 ∷ []) $ fsplit ! $ move ! (1 ∷ []) $ fsplit ! $ move ! (1 ∷ []) $ fsplit ! $ move ! (1 ∷ []) $ fsplit ! $ move ! (1 ∷ []) $ fsplit ! $ move ! (1 ∷ []) $ fsplit ! $ move ! (1 ∷ []) $ fsplit ! $ move ! (1 ∷ []) $ fsplit ! $ nothing ! $ nothing ! $ nothing ! $ nothing ! $
       -- [true3; true2; true1; true0; owners; numbers; sizes; prices; sides; token of entries; token of numbers; token
       -- of owners; token of sizes; token of prices; token of sides; row's token; row; result]
@@ -255,7 +256,7 @@ module _ {M : Type 1} (𝓤 : URA M) (H : Heap 𝓤) (A : Atoms 𝓤) (W : Given
         -- `turn_fills`
         use0 W (raw (Count 𝓤 H A at-mem run .pre (to-count t v))) (goes-count t v is-t) $
         calls-at ! fm (Count 𝓤 H A at-mem run) known-count (to-count t v) (and-then ! (load ! (from ! (stop !)) (look ! 27 refl)) (no-more !)) (λ z.
-        told-count ! tt (fillsIn (t .answer)) z (λ k. ensured 𝓤 H A turn-fills.ended (turn-fills.clauses 𝓤 H A at-mem run) tt (t, tt) tt k) (count-of 𝓤 H A at-mem run t) (id⊢ 𝓤 _) (λ k ek is-k.
+        told-one ! tt usize z (λ k. ensured 𝓤 H A turn-fills.ended (turn-fills.clauses 𝓤 H A at-mem run) tt (t, tt) tt k) (λ k. k ≡ fillsIn (t .answer)) (count-of 𝓤 H A at-mem run t) (id⊢ 𝓤 _) (λ k ek is-k.
         land ! (from ! (stop !)) (init ! 24 refl (uint-lawful 𝓤 H A W w64 .typed k (z ∷ []) is-k .0)) $ rewrite ! 24 (λ (u : Val). ‵ (fat fullShare (tyInt w64) l₁₁ 0 u)) (ap only (uint-tells w64 k (z ∷ []) is-k)) refl $
         assigns ! (addr ! (from ! (fld ! refl (hop ! (look-in ! 29 (sub ! 0 refl (whole !))) (stop !))))) (from ! (stop !)) (init ! 6 refl (tt, tt)) $
         assigns ! (agg ! (and-then ! (load ! (from ! (stop !)) (look ! 6 refl)) (and-then ! (load ! (from ! (fld ! refl (stop !))) (look-in ! 29 (sub ! 1 refl (whole !)))) (no-more !)))) (from ! (stop !)) (init ! 4 refl (tt, (tt, (record { fits = room .0 }, tt)))) $
@@ -264,7 +265,7 @@ module _ {M : Type 1} (𝓤 : URA M) (H : Heap 𝓤) (A : Atoms 𝓤) (W : Given
         shares-flat ! tt (named 1) l₉ (last ws) (λ μ ε.
         -- [the flat records, shared; the lender's part; μ's token; the columns, left; the locals; the row's token; what
         -- the row owns]
-        move ! (49 ∷ 50 ∷ 2 ∷ 0 ∷ []) $ stores ! fm at-mem run known-store κ₆ q₆ x k μ l₉ ε (last ws) (fits t (each ws) (last ws) k ec ek) (and-then ! (load ! (from ! (stop !)) (look ! 5 refl)) (and-then ! (load ! (from ! (stop !)) (look ! 3 refl)) (and-then ! (load ! (from ! (stop !)) (look ! 25 refl)) (no-more !)))) (λ y zs ez len eu.
+        move ! (49 ∷ 50 ∷ 2 ∷ 0 ∷ []) $ stores ! fm at-mem run known-store κ₆ q₆ x k μ l₉ ε (last ws) (stored-so t (each ws) (last ws) k ec ek .0) (and-then ! (load ! (from ! (stop !)) (look ! 5 refl)) (and-then ! (load ! (from ! (stop !)) (look ! 3 refl)) (and-then ! (load ! (from ! (stop !)) (look ! 25 refl)) (no-more !)))) (λ y zs ez len eu.
         -- [the row's token; μ's token; the last row; the lender's part; the columns, left; the locals]
         land ! (from ! (stop !)) (init ! 11 refl (subst (λ (b : Val). Holds (hasTy tyUnit b) × WT b) (sym (ap only eu)) (tt, tt))) $
         -- the local is whole again
@@ -277,7 +278,7 @@ module _ {M : Type 1} (𝓤 : URA M) (H : Heap 𝓤) (A : Atoms 𝓤) (W : Given
         move ! (48 ∷ 49 ∷ []) $ free1 ! $ move ! (46 ∷ 47 ∷ []) $ free1 ! $ move ! (44 ∷ 45 ∷ []) $ free1 ! $ move ! (42 ∷ 43 ∷ []) $ free1 ! $ move ! (40 ∷ 41 ∷ []) $ free1 ! $ move ! (38 ∷ 39 ∷ []) $ free1 ! $ move ! (36 ∷ 37 ∷ []) $ free1 ! $ move ! (34 ∷ 35 ∷ []) $ free1 ! $ move ! (32 ∷ 33 ∷ []) $ free1 ! $
         move ! (1 ∷ 31 ∷ []) $ free1 ! $
         move ! (28 ∷ 29 ∷ []) $ free1 ! $ move ! (26 ∷ 27 ∷ []) $ free1 ! $ move ! (24 ∷ 25 ∷ []) $ free1 ! $ move ! (22 ∷ 23 ∷ []) $ free1 ! $ move ! (20 ∷ 21 ∷ []) $ free1 ! $ move ! (18 ∷ 19 ∷ []) $ free1 ! $ move ! (16 ∷ 17 ∷ []) $ free1 ! $ move ! (14 ∷ 15 ∷ []) $ free1 ! $ move ! (12 ∷ 13 ∷ []) $ free1 ! $ move ! (10 ∷ 11 ∷ []) $ free1 ! $ move ! (8 ∷ 9 ∷ []) $ free1 ! $ move ! (6 ∷ 7 ∷ []) $ free1 ! $ move ! (4 ∷ 5 ∷ []) $ free1 ! $ free0 ! $
-        keep ! (3 ∷ 1 ∷ 2 ∷ 0 ∷ []) $ by ! (exits t v (each ws) zs (told t (each ws) (last ws) k zs ec ek ez) es len)))))))))))))))))))))))))))))))
+        keep ! (3 ∷ 1 ∷ 2 ∷ 0 ∷ []) $ by ! (exits t v (each ws) zs (subst (Told t (each ws)) (sym ez) (stored-so t (each ws) (last ws) k ec ek .1)) es len)))))))))))))))))))))))))))))))
 
 module _ {M : Type 1} (𝓤 : URA M) (H : Heap 𝓤) (A : Atoms 𝓤) (W : Given 𝓤 H A) (at-mem : Memory → SProp 𝓤) (run : Routine → Fun 𝓤) where
   turn-walks : (C : Calls 𝓤 H) (Λ : Loops 𝓤 H) → FmC 𝓤 H (W .laws) C → Triple 𝓤 (C #session·turn·turn-core) (Core 𝓤 H A at-mem run) → Triple 𝓤 (C #fills·turn-fills) (Count 𝓤 H A at-mem run) → Triple 𝓤 (C #fills·store-all) (StoreAll 𝓤 H A at-mem run)

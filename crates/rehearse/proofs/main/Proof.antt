@@ -13,16 +13,15 @@ use Rattle.rehearse.proofs.main.Statement.{statement}
 use Rattle.rehearse.proofs.main.Tie as tie
 
 abbrev Inv-loop : tie.InvT-loop
-Inv-loop fd s₀ sides₀ prices₀ sizes₀ owners₀ numbers₀ entries₀ records₀ given₀ window₀ out₀ at₀ from₀ to₀ base₀ more₀ status₀ turns₀ s sides prices sizes owners numbers entries records given window out at from to base more status turns =
-    Rehearsing (marketOf s (bookOf sides prices sizes owners numbers) entries) records given window out at from to base turns
+Inv-loop fd s₀ sides₀ prices₀ sizes₀ owners₀ numbers₀ entries₀ given₀ window₀ out₀ at₀ from₀ to₀ base₀ more₀ status₀ turns₀ s sides prices sizes owners numbers entries given window out at from to base more status turns =
+    Rehearsing (marketOf s (bookOf sides prices sizes owners numbers) entries) given window out at from to base turns
 
 abbrev μ-loop : tie.MeasureT-loop
-μ-loop fd s₀ sides₀ prices₀ sizes₀ owners₀ numbers₀ entries₀ records₀ given₀ window₀ out₀ at₀ from₀ to₀ base₀ more₀ status₀ turns₀ s sides prices sizes owners numbers entries records given window out at from to base more status turns = turns
+μ-loop fd s₀ sides₀ prices₀ sizes₀ owners₀ numbers₀ entries₀ given₀ window₀ out₀ at₀ from₀ to₀ base₀ more₀ status₀ turns₀ s sides prices sizes owners numbers entries given window out at from to base more status turns = turns
 
 loop-holds : tie.Need-loop-holds Inv-loop μ-loop
 loop-holds c = record {
   sound = c .before .before .new .ensures .1 _ _;
-  records-long = length-replicate {A = ℕ} 864 0;
   given-long = length-replicate {A = ℕ} bulkNumbers 0;
   window-long = sym (c .before .large-buffer .ensures);
   out-long = sym (c .large-buffer2 .ensures);
@@ -62,9 +61,9 @@ main-spec =
     (λ c. let r = c .before .before .before .before .before .loop .inv in omega (arith, r .within, r .window-long))
     (λ c. sym (at-hand (c .before .before .before .before .before .before .loop .inv)))
     (λ c. sym (c .before .before .before .before .before .before .before .loop .inv .given-long))
-    (λ c κs. (can-step (c .before .before .before .before .before .before .before .before .before .before .before .before .before .before .before .loop .inv) (c .before .before .before .before .before .before .before .before .before .before .if4 .left), place-fits (c .before .before .before .before .before .before .before .before .before .before .before .before .before .before .before .loop .inv)))
-    (λ c. fewer _ (c .before .before .before .before .before .before .before .before .before .before .before .before .before .before .before .before .before .loop-test .taken))
-    (λ c. steps (c .before .before .before .before .before .before .before .before .before .before .before .before .before .before .before .before .before .before .loop .inv) (c .before .before .before .before .before .before .before .before .before .before .before .before .before .before .before .before .before .loop-test .taken) (c .before .before .before .before .before .before .before .before .before .before .before .before .before .if4 .left) (c .before .before .step .ensures) (c .before .given2 .given))
+    (λ c κs. (can-step (c .before .before .before .before .before .before .before .before .before .before .before .before .before .before .loop .inv) (c .before .before .before .before .before .before .before .before .before .if4 .left), place-fits (c .before .before .before .before .before .before .before .before .before .before .before .before .before .before .loop .inv)))
+    (λ c. fewer _ (c .before .before .before .before .before .before .before .before .before .before .before .before .before .before .before .before .loop-test .taken))
+    (λ c. steps (c .before .before .before .before .before .before .before .before .before .before .before .before .before .before .before .before .before .loop .inv) (c .before .before .before .before .before .before .before .before .before .before .before .before .before .before .before .before .loop-test .taken) (c .before .before .before .before .before .before .before .before .before .before .before .before .if4 .left) (c .before .before .step .ensures) (c .before .given2 .given))
     (λ c. sym (c .before .before .loop .inv .out-long))
     (λ c κs. let r = c .before .before .loop .inv in omega (arith, r .printed, r .out-long))
     (λ c κs. search needs)

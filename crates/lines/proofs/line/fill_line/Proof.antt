@@ -1,7 +1,7 @@
--- `lines::line::fill_line` meets its contract, by whether there is such a record.
+-- `lines::line::fill_line` meets its contract: each part is laid out after those before it.
+use native.Mathlib.Omega.{arith}
 use borrow.Author.Needs.{needs}
-use borrow.Author.Tests.{lt-ltb, le-ltb}
-use Rattle.lines.specs.Laying.{nothing-laid}
+use Rattle.lines.specs.Laying.{laid-then, laid-within}
 use Rattle.lines.proofs.line.fill_line.Statement.{statement}
 use Rattle.lines.proofs.line.fill_line.Tie as tie
 
@@ -10,17 +10,10 @@ fill-line-spec =
     tie.close
     (tie.spec
     (λ c. search needs)
-    (λ c. search needs)
-    (λ c. search needs)
-    (λ c. search needs)
-    (λ c. search needs)
-    (λ c. search needs)
-    (λ c. search needs)
-    (λ c. search needs)
-    (λ c. search needs)
-    (λ c. search needs)
-    (λ c. search needs)
-    (λ c. search needs)
     (λ c κs. search needs)
-    (λ c. simp (lt-ltb _ _ (c .before .before .before .before .before .before .if1 .taken)) (c .fill .ensures))
-    (λ c. simp (le-ltb _ _ (c .if1 .left)) (nothing-laid _ _ (c .before .pre .long))))
+    (λ c κs. search needs)
+    (λ c κs. search needs)
+    (λ c κs. search needs)
+    (λ c κs. search needs)
+    (λ c κs. search needs)
+    (λ c. laid-within _ _ {m = 49} (omega arith) (laid-then _ _ (laid-then _ _ (laid-then _ _ (laid-then _ _ (laid-then _ _ (c .before .before .before .before .before .before .before .before .before .before .word .ensures) (c .before .before .before .before .before .before .before .before .number .ensures)) (c .before .before .before .before .before .before .number2 .ensures)) (c .before .before .before .before .number3 .ensures)) (c .before .before .number4 .ensures)) (c .newline .ensures))))

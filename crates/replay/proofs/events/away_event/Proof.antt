@@ -14,6 +14,6 @@ away-event-spec =
     (tie.spec
     (λ c κs. search needs)
     (λ c κs. one-line _ _ (c .before .before .before .before .pre))
-    (λ c b entries was can.
+    (λ c b entries can.
     let done = c .before .before .before .away .ensures in
-    call-replayed _ was _ _ can awayLine _ _ _ _ (done .0 b entries) (done .1 b entries (can .sound)) (c .before .away-line .ensures)))
+    call-replayed _ _ awayLine _ _ _ _ (done .0 b entries) (done .1 b entries (can .sound)) (c .before .away-line .ensures)))

@@ -13,7 +13,8 @@ settings-event-spec =
     tie.close
     (tie.spec
     (λ c κs. search needs)
-    (λ c κs. one-line _ _ (c .before .before .before .before .before .before .before .before .pre))
-    (λ c was can.
+    (λ c κs. one-line _ _ (c .before .before .before .before .before .before .before .before .pre .room))
+    (λ c.
+    let can = c .before .before .before .before .before .before .before .before .before .before .pre in
     let done = c .before .before .before .settings .ensures in
-    call-replayed _ was _ _ can setLine _ _ _ _ (done .0) (done .1 (can .sound)) (c .before .set-line .ensures)))
+    call-replayed _ _ setLine _ _ _ _ (done .0) (done .1 (can .sound)) (c .before .set-line .ensures)))

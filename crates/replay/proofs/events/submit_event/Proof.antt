@@ -23,10 +23,10 @@ submit-event-spec =
     (λ c. sym (length-take-le _ (c .before .before .before .args .given .now) (omega (arith, c .before .numbers-of .ensures))))
     (λ c κs. c .before .before .before .before .pre .0)
     (λ c κs. one-line _ _ (c .before .before .before .before .before .before .pre .1))
-    (λ c b was can.
+    (λ c b can.
     let a = c .before .before .before .before .before .before .before .before .args in
     let done = c .before .before .before .submit .ensures in
     let given = take-lent _ _ (a .given .now) (c .before .before .before .before .before .before .numbers-of .ensures) in
-    call-replayed _ was _ _ can submitLine _ _ _ _
+    call-replayed _ _ submitLine _ _ _ _
     (done .0 b ∙ ap (λ (l : List ℕ). submitOf (marketOf (a .s) b (a .entries .now)) (a .tenant) (a .count) l) given)
     (done .1 b (can .sound)) (c .before .submit-line .ensures)))

@@ -15,18 +15,18 @@ before c =
 
 returns : tie.Need-returns
 returns c =
-    let s = c .before .before .before .before .before .before .before .before .before .before .before .before .before .before .before .before .before .before .before .before in
+    let s = c .before .before .before .before .before .before .before .before .before .before .before .before .before .before .before .before .before .before .before in
     let a = s .args in
-    let read = c .before .before .before .before .before .before .before .before .before .before .before .before .before .before .before .before .event .ensures in
-    step-read (before s) (a .bytes .now) (a .from) (a .base) (a .given .now) (a .records .now) (a .out .now) (a .at) _ (read .0) _ (read .1) _ _ _ _ _ _
-    (c .before .before .before .before .before .before .before .before .before .before .before .before .reading .given .1) (c .before .event2 .ensures) refl refl
+    let read = c .before .before .before .before .before .before .before .before .before .before .before .before .before .before .before .event .ensures in
+    step-read (before s) (a .bytes .now) (a .from) (a .base) (a .given .now) (a .out .now) (a .at) _ (read .0) _ (read .1) _ _ _ _ _
+    (c .before .before .before .before .before .before .before .before .before .before .before .reading .given .1) (c .before .event2 .ensures) refl refl
 
 returns-2 : tie.Need-returns-2
 returns-2 c =
     let s = c .before .before .before .before .before .before .before .before .before .before .before in
     let a = s .args in
     let read = c .before .before .before .before .before .before .before .event .ensures in
-    step-refused (before s) (a .bytes .now) (a .from) (a .base) (a .given .now) (a .records .now) (a .out .now) (a .at) _ (read .0) _ (read .1) (s .pre .0) _ _ refl _ _
+    step-refused (before s) (a .bytes .now) (a .from) (a .base) (a .given .now) (a .out .now) (a .at) _ (read .0) _ (read .1) (s .pre .0) _ _ refl _ _
     (c .before .before .before .reading2 .given .1) (c .tape-line .ensures) refl
 
 returns-3 : tie.Need-returns-3
@@ -34,7 +34,7 @@ returns-3 c =
     let s = c .before .before .before .before .before .before .before .before .before .before in
     let a = s .args in
     let read = c .before .before .before .before .before .before .event .ensures in
-    step-end (before s) (a .bytes .now) (a .from) (a .base) (a .given .now) (a .records .now) (a .out .now) (a .at) _ (read .0) _ (read .1) (s .pre .0) _ _ refl
+    step-end (before s) (a .bytes .now) (a .from) (a .base) (a .given .now) (a .out .now) (a .at) _ (read .0) _ (read .1) (s .pre .0) _ _ refl
     (c .before .before .enum-told .given .1) (c .end-line .ensures) refl
 
 pub step-spec : {M : Type 1} → statement M
@@ -43,7 +43,7 @@ step-spec =
     (tie.spec
     (λ c κs. search needs)
     (λ c. search needs)
-    (λ c κs. c .before .before .before .before .before .before .before .before .before .before .before .before .before .before .before .before .before .before .pre .0)
+    (λ c κs. c .before .before .before .before .before .before .before .before .before .before .before .before .before .before .before .before .before .pre .0)
     (λ c. search needs)
     (λ c.
     let s = c .before .before .before .before .before .before .before .before .before .before in
@@ -51,7 +51,7 @@ step-spec =
     (λ c κs. one-line _ _ (c .before .before .before .before .before .before .before .before .before .before .pre .0 .room))
     (λ c. search needs)
     (λ c κs. one-line _ _ (c .before .before .before .before .before .before .before .before .before .pre .0 .room))
-    (λ c. c .before .before .before .before .before .before .before .before .before .before .before .before .before .before .before .given .given)
+    (λ c. c .before .before .before .before .before .before .before .before .before .before .before .before .before .before .given .given)
     returns
     (λ c. search needs)
     returns-2

@@ -6,8 +6,8 @@ use native.Mathlib.Nat.{zero-add, add-zero, add-suc, suc-add, not-suc-le-zero, l
 use native.Mathlib.Numerals.{add-one}
 use native.Mathlib.Omega.{arith}
 use lib.ListN.{length, getD, drop, set}
-use Rattle.fills.specs.declared.Fill.{Fill}
-use Rattle.fills.specs.Fills.{fillAt, fillsFrom, stored}
+use Rattle.book.specs.declared.Fill.{Fill}
+use Rattle.book.specs.Fills.{fillAt, fillsFrom, stored}
 
 next-from : (rs : List ℕ) (k i : ℕ) (row : List Fill) → i < length row
     → set (fillsFrom rs k i ++ drop i row) i (fillAt rs (k + i)) ≡ fillsFrom rs k (suc i) ++ drop (suc i) row

@@ -1,12 +1,20 @@
 -- Fill records as a row of fills.
 use Prim.Native.Nat.{ℕ, zero, suc, _+_, _*_, _≤_}
 use mathlib.Core.List.{List, [], _∷_, _++_}
-use lib.ListN.{length, drop}
+use lib.ListN.{length, drop, getD}
 use Rattle.units.specs.Units.{cents, contracts}
 use Rattle.units.specs.Places.{at}
 use Rattle.rows.specs.Rows.{rows}
 use Rattle.book.specs.Records.{fields}
-use Rattle.fills.specs.declared.Fill.{Fill}
+use Rattle.book.specs.declared.Fill.{Fill}
+
+-- a fill with nothing in it
+abbrev pub noFill : Fill
+noFill = record { number = 0; tenant = 0; quantity = contracts 0; price = cents 0 }
+
+-- fill k of a row; past its end there is nothing
+abbrev pub fillIn : List Fill → ℕ → Fill
+fillIn row k = getD row k noFill
 
 -- record i of flat numbers, four to a record: order number, tenant, quantity and price
 abbrev pub fillAt : List ℕ → ℕ → Fill
