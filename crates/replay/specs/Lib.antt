@@ -7,3 +7,5 @@ pub mod ReplayLaws
 pub mod Stepping
 pub mod SteppingLaws
 pub mod RisingLaws
+pub mod Output
+pub mod OutputLaws
