@@ -2,6 +2,7 @@
 pub mod Markets
 pub mod Examples
 pub mod Worked
+pub mod WorkedTape
 pub mod Runs
 pub mod RunLaws
 pub mod InOrder

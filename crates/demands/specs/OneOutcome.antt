@@ -146,6 +146,7 @@ use Rattle.session.proofs.away.away.Reads as session-away
 use Rattle.session.proofs.reading.tally_of.Reads as session-tally-of
 use Rattle.replay.proofs.tallying.tally_lines.Reads as replay-tally-lines
 use Rattle.window.proofs.is_short.Reads as window-is-short
+use Rattle.playing.proofs.play.Reads as playing-play
 
 -- the result is the same
 abbrev pub OneResult : {K A Z E : Type 0} → (K → A → Z → E → Type 0) → Type 0
@@ -721,3 +722,15 @@ one-replay-tally-lines κs a z z′ e e′ = laid
 -- `refill` and `write_out` have none: what a read gives and whether a write is taken come from the file
 pub one-window-is-short : OneResult window-is-short.Post
 one-window-is-short κs a z z′ e e′ = same
+
+-- ---- playing
+
+pub one-playing-play : OneOutcome playing-play.Post (λ e. e .1 .1 .1 .1 .1 .0 .now ∷ marketLent (e .1 .1 .1 .1 .1 .1))
+one-playing-play κs a z z′ e e′ p q =
+    let m = same (p .market) (q .market) in
+    let at = same (p .laid .end) (q .laid .end) in
+    let from = same (p .from) (q .from) in
+    let next = same (p .next) (q .next) in
+    let given = same (p .given-is) (q .given-is) in
+    let out = same (p .laid .stored) (q .laid .stored) in
+    (λ i. record { session = m i .session; at = at i; from = from i; next = next i }, λ i. given i ∷ columns (m i .book) (m i .entries ∷ out i ∷ []))

@@ -7,15 +7,12 @@
 // refused, `2` a file could not be opened, read or written.
 use entry::BULK_NUMBERS;
 use lanes::ALL_ENTRIES;
-use lines::OUTPUT;
 use lines::Output;
-use replay::LONGEST_EVENT;
+use playing::Next;
+use playing::play;
 use replay::stepping::GOING;
-use replay::stepping::step;
 use replay::tallying::tally_lines;
 use session::Session;
-use tape::MOST_BYTES;
-use window::is_short;
 use window::refill;
 use window::writing::write_out;
 ghost use mathlib.Core.Path.{_≡_};
@@ -29,7 +26,7 @@ const STATUS_FILENO: i32 = 3;
 // A read or a write failed.
 const FAILED: u8 = b'2';
 
-// More turns of the loop than any run takes: each reads, writes or steps once.
+// More turns of the loop than any run takes: each plays what is at hand, then reads or writes once.
 const TURNS: u64 = 140737488355328;
 
 fn tell(status: u8) {
@@ -125,36 +122,42 @@ fn main() {
     let mut turns = TURNS;
     while turns > 0 && status == GOING {
         turns -= 1;
-        if is_short(from, to, more, MOST_BYTES) {
-            let filled = refill(fd, &mut window, from, to, base);
-            base = filled.base;
-            from = 0;
-            to = filled.to;
-            more = filled.more;
-            status = status_after(filled.failed);
-        } else if OUTPUT - at < LONGEST_EVENT {
-            status = flush(&out, at);
-            at = 0;
-        } else {
-            let done = step(
-                s,
-                &window[..to],
-                from,
-                base,
-                &mut given,
-                &mut sides,
-                &mut prices,
-                &mut sizes,
-                &mut owners,
-                &mut numbers,
-                &mut entries,
-                &mut out,
-                at,
-            );
-            s = done.session;
-            at = done.at;
-            from = done.from;
-            status = done.status;
+        let done = play(
+            s,
+            &window[..to],
+            more,
+            base,
+            from,
+            &mut given,
+            &mut sides,
+            &mut prices,
+            &mut sizes,
+            &mut owners,
+            &mut numbers,
+            &mut entries,
+            &mut out,
+            at,
+        );
+        s = done.session;
+        at = done.at;
+        from = done.from;
+        let next = done.next;
+        match next {
+            Next::Read => {
+                let filled = refill(fd, &mut window, from, to, base);
+                base = filled.base;
+                from = 0;
+                to = filled.to;
+                more = filled.more;
+                status = status_after(filled.failed);
+            }
+            Next::Write => {
+                status = flush(&out, at);
+                at = 0;
+            }
+            Next::Stop(how) => {
+                status = how;
+            }
         }
     }
     if flush(&out, at) == GOING && status != FAILED && print_tallies(s, &mut out) == GOING {

@@ -9,3 +9,5 @@ pub mod SteppingLaws
 pub mod RisingLaws
 pub mod Tallying
 pub mod TallyingLaws
+pub mod Output
+pub mod OutputLaws

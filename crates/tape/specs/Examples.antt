@@ -11,8 +11,8 @@ use Rattle.tape.specs.Tape.{numbers, settings, away, entries, submit, fo
 
 -- time class, grid 1, call, strike 10000, D 10, F 20, x 10, least 25, greatest 500, no prints; open; tenant 2 buys 5 at
 -- 100 for the day; tenant 7 sells 3 at 100 now; three turns
-abbrev example : List ℕ
-example =
+abbrev pub workedTape : List ℕ
+workedTape =
     1 ∷ 1 ∷ 1 ∷ 1 ∷ 0x90 ∷ 0x4e ∷ 10 ∷ 20 ∷ 10 ∷ 25 ∷ 0xf4 ∷ 0x03 ∷ 0 ∷ 0
     ∷ 5
     ∷ 3 ∷ 2 ∷ 1 ∷ 1 ∷ 1 ∷ 1 ∷ 100 ∷ 5 ∷ 0
@@ -21,13 +21,13 @@ example =
     ∷ []
 
 worked :
-    (eventAt example 0 ≡ Read (Settings (settingsOf (1 ∷ 1 ∷ 1 ∷ 10000 ∷ 10 ∷ 20 ∷ 10 ∷ 25 ∷ 500 ∷ 0 ∷ 0 ∷ []))) 14) ×
-    (eventAt example 14 ≡ Read Open 15) ×
-    (eventAt example 15 ≡ Read (Submit 2 1) 24) ×
-    (entriesAfter example 15 (9 ∷ 9 ∷ 9 ∷ 9 ∷ 9 ∷ 9 ∷ 9 ∷ []) ≡ 1 ∷ 1 ∷ 1 ∷ 100 ∷ 5 ∷ 0 ∷ 9 ∷ []) ×
-    (eventAt example 24 ≡ Read (Submit 7 1) 33) ×
-    (eventAt example 33 ≡ Read Turn 34) ×
-    (eventAt example 36 ≡ End)
+    (eventAt workedTape 0 ≡ Read (Settings (settingsOf (1 ∷ 1 ∷ 1 ∷ 10000 ∷ 10 ∷ 20 ∷ 10 ∷ 25 ∷ 500 ∷ 0 ∷ 0 ∷ []))) 14) ×
+    (eventAt workedTape 14 ≡ Read Open 15) ×
+    (eventAt workedTape 15 ≡ Read (Submit 2 1) 24) ×
+    (entriesAfter workedTape 15 (9 ∷ 9 ∷ 9 ∷ 9 ∷ 9 ∷ 9 ∷ 9 ∷ []) ≡ 1 ∷ 1 ∷ 1 ∷ 100 ∷ 5 ∷ 0 ∷ 9 ∷ []) ×
+    (eventAt workedTape 24 ≡ Read (Submit 7 1) 33) ×
+    (eventAt workedTape 33 ≡ Read Turn 34) ×
+    (eventAt workedTape 36 ≡ End)
 unfolding numberIn numberAt numbers settings away entries submit formIn formOf event reading eventAt numbersAt entriesOf stored entriesAfter _and_ from1to
 worked = (refl, refl, refl, refl, refl, refl, refl)
 

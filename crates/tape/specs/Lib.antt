@@ -9,4 +9,6 @@ pub mod TapeLaws
 pub mod Leads
 pub mod Spelling
 pub mod Refusals
+pub mod Whole
+pub mod WholeLaws
 pub mod Examples

@@ -55,6 +55,13 @@ unfolding stored
 stored-nowhere [] = refl
 stored-nowhere (v ∷ vs) = refl
 
+-- the memory stays as long as it was
+pub stored-long : (vs out : List ℕ) → length (stored vs out) ≡ length out
+unfolding stored
+stored-long [] out = refl
+stored-long (v ∷ vs) [] = refl
+stored-long (v ∷ vs) (x ∷ out) = ap suc (stored-long vs out)
+
 -- numbers that the memory holds stand at its front, and the rest is as found
 pub stored-front : (vs out : List ℕ) → length vs ≤ length out → stored vs out ≡ vs ++ drop (length vs) out
 unfolding stored

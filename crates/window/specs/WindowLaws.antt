@@ -6,9 +6,9 @@ use mathlib.Core.List.{List, _++_}
 use Prim.Native.Nat.{ℕ, suc, _+_, _-_, _≤_, _<_}
 use native.Mathlib.Omega.{arith}
 use borrow.Author.Tests.{ltb-false}
-use lib.ListN.{length, getD, set, take, drop, length-drop, length-take}
+use lib.ListN.{length, getD, set, take, drop, length-drop, length-take, take-append-drop}
 use borrow.Rule.Slice.PartMut.{midOf, putMid, same-len-mid, take-put}
-use lib.Seq.{paste, paste-zero, paste-suc, length-paste, take-paste, length-paste-head, getD-append-add, getD-drop}
+use lib.Seq.{paste, paste-zero, paste-suc, length-paste, take-paste, length-paste-head, length-take-le, getD-append-add, getD-drop, take-add, take-take, drop-at}
 use Rattle.window.specs.declared.Filled.{Filled}
 use Rattle.window.specs.Window.{isShort, Refilled}
 
@@ -17,6 +17,12 @@ pub enough : (from to : ℕ) (more : Bool) (wanted : ℕ) → isShort from to mo
 unfolding isShort
 enough from to true wanted h = inl (ltb-false (to - from) wanted h)
 enough from to false wanted h = inr refl
+
+-- what is short may go on
+pub short-goes-on : (from to : ℕ) (more : Bool) (wanted : ℕ) → isShort from to more wanted ≡ true → more ≡ true
+unfolding isShort
+short-goes-on from to true wanted h = refl
+short-goes-on from to false wanted h = h
 
 -- a byte behind those that moved is as it was
 past-paste : (d s : List ℕ) (n i : ℕ) → n ≤ length s → n ≤ i → getD (paste d 0 s n) i 0 ≡ getD d i 0
@@ -103,3 +109,16 @@ module _ (was mid ys : List ℕ) (from to base k : ℕ) (h : from ≤ to) (fits 
       front =
           let z : to - from ≡ 0 + (to - from) = omega arith in
           rw moved (ap (λ (i : ℕ). take i (paste was 0 (drop from was) (to - from))) z ∙ take-paste was 0 (drop from was) (to - from) (omega arith) part)
+
+-- the bytes at hand after a read: those that were not used yet, then what was read
+pub read-behind :
+    {was window : List ℕ} {from to base : ℕ} {r : Filled} → from ≤ to → to ≤ length was → Refilled was from to base window r →
+    take (r .to) window ≡ drop from (take to was) ++ drop (to - from) (take (r .to) window)
+read-behind {was} {window} {from} {to} {base} {r} h k f =
+    let e : to ≡ from + (to - from) = omega arith in
+    let unused : drop from (take to was) ≡ take (to - from) (drop from was)
+    = ap (λ (n : ℕ). drop from (take n was)) e
+    ∙ ap (drop from) (take-add from (to - from) was)
+    ∙ drop-at (take from was) (take (to - from) (drop from was)) from (length-take-le from was (omega arith)) in
+    sym (take-append-drop (to - from) (take (r .to) window))
+    ∙ ap (λ (l : List ℕ). l ++ drop (to - from) (take (r .to) window)) (take-take (to - from) (r .to) window (f .least) ∙ f .kept ∙ sym unused)
