@@ -13,6 +13,7 @@ use Rattle.lines.specs.Lines.{setLine, awayLine, submitLine, openLine}
 use Rattle.entry.specs.Numbers.{entryNumbers}
 use Rattle.tape.specs.declared.Event.{Event}
 use Rattle.tape.specs.declared.Event.the-variants as event
+use Rattle.tape.specs.Whole.{Sent, readAll}
 use Rattle.session.specs.Market.{Market}
 use Rattle.session.specs.Sound.{Sound}
 use Rattle.session.specs.Turn.{fillsIn}
@@ -21,6 +22,7 @@ use Rattle.fills.specs.Calls.{blank, emptyRow, openWith}
 use Rattle.replay.specs.Listing.{fillLines, goneEach, turnLines, openLineOf, openLines}
 use Rattle.replay.specs.RisingLaws.{Listed}
 use Rattle.replay.specs.Replay.{eventPrinted}
+use Rattle.replay.specs.Output.{lastLine, newMarket, outputOf}
 use Rattle.demands.specs.Runs.{Call, settings, away, submit, turn, opening, Answer, coded, turned, opened, Done, step}
 use Rattle.demands.specs.Demand2.{openPrinted, openFills, onceFilled, Cancelled}
 
@@ -52,12 +54,21 @@ openTold m after (opened a) records =
     openLines a (m .book .sizes) (after .book .sizes) (m .book .numbers) (stored records (fillsOpened a) emptyRow)
 
 -- the lines of a call on a market, by what it left
-abbrev pub linesOf : Market → Call → Done → List ℕ
-linesOf m (settings given) d = setLine (codeIn (d .answer))
-linesOf m (away bid offer) d = awayLine (codeIn (d .answer))
-linesOf m (submit tenant count ns) d = submitLine (codeIn (d .answer))
-linesOf m (turn lent was) d = turnTold (d .answer) (d .records)
-linesOf m (opening lent was) d = openTold m (d .market) (d .answer) (d .records)
+abbrev pub callLines : Market → Call → Done → List ℕ
+callLines m (settings given) d = setLine (codeIn (d .answer))
+callLines m (away bid offer) d = awayLine (codeIn (d .answer))
+callLines m (submit tenant count ns) d = submitLine (codeIn (d .answer))
+callLines m (turn lent was) d = turnTold (d .answer) (d .records)
+callLines m (opening lent was) d = openTold m (d .market) (d .answer) (d .records)
+
+-- the calls that events are, one after the other, and the lines of a run of calls
+abbrev pub callsOf : List Sent → List Call
+callsOf [] = []
+callsOf (x ∷ xs) = callOf (x .event) (x .numbers) ∷ callsOf xs
+
+abbrev pub runLines : Market → List Call → List ℕ
+runLines m [] = []
+runLines m (c ∷ cs) = callLines m c (step m c) ++ runLines (step m c .market) cs
 
 -- each number is above the one before
 abbrev pub Rises : ℕ → List ℕ → Type 0
@@ -74,7 +85,9 @@ pub record GoneTold (m : Market) (p : ℕ) (ns : List ℕ) : Type 0 where
 -- Replay's step is the run's step, and its lines are those of document 01.
 pub record ReplayRight : Type 0 where
   pub market : (m : Market) (e : Event) (lent : List ℕ) → eventPrinted m e lent .market ≡ step m (callOf e lent) .market
-  pub lines : (m : Market) (e : Event) (lent : List ℕ) → eventPrinted m e lent .bytes ≡ linesOf m (callOf e lent) (step m (callOf e lent))
+  pub lines : (m : Market) (e : Event) (lent : List ℕ) → eventPrinted m e lent .bytes ≡ callLines m (callOf e lent) (step m (callOf e lent))
+  -- so a whole tape prints the lines of the run that its events are, from a new session, then its last line
+  pub tape : (tape : List ℕ) → outputOf tape ≡ runLines newMarket (callsOf (readAll tape .events)) ++ lastLine (readAll tape .ending)
   -- an opening at a price prints its line, its fills, then a line `gone N` for each cancelled order, rising
   pub gone : (m : Market) (lent : List ℕ) (price volume : ℕ) → Sound m → crosses (m .book) ≡ true → openPrinted m rows blank ≡ openedAt price volume
       → (ns : List ℕ) × GoneTold m price ns × (eventPrinted m event.Open lent .bytes

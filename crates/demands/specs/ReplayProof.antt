@@ -27,6 +27,7 @@ use Rattle.lines.specs.GoneLaws.{none-gone}
 use Rattle.lines.specs.Cancelled.{gone-is-cancelled}
 use Rattle.tape.specs.declared.Event.{Event}
 use Rattle.tape.specs.declared.Event.the-variants as event
+use Rattle.tape.specs.Whole.{Sent, readAll}
 use Rattle.session.specs.Market.{Market}
 use Rattle.session.specs.Sound.{Sound}
 use Rattle.session.specs.Open.{OpenDone, Line, refusedBy, openedAt, printed, fillsIn, openRefusal, openQuiet, openAt, openOf}
@@ -34,11 +35,12 @@ use Rattle.fills.specs.Calls.{blank, emptyRow, openWith}
 use Rattle.replay.specs.Listing.{fillLines, rising, goneEach, goneLines, openLineOf, openLines}
 use Rattle.replay.specs.RisingLaws.{Listed, InColumn, Rising, none, next, rises, all-listed}
 use Rattle.replay.specs.Replay.{settingsPrinted, awayPrinted, submitPrinted, turnPrinted, openPrinted as openEvent, eventPrinted}
+use Rattle.replay.specs.Output.{linesOf, lastLine, printedOn, newMarket, outputOf}
 use Rattle.demands.specs.Runs.{step}
 use Rattle.demands.specs.OpenCases.{Outcome, refused, quiet, opens, open-set, outcome}
 use Rattle.demands.specs.Demand2.{openPrinted, openFills, onceFilled, Cancelled}
 use Rattle.demands.specs.Demand2Opening.{goes-says}
-use Rattle.demands.specs.Replay.{callOf, linesOf, Rises, GoneTold, ReplayRight}
+use Rattle.demands.specs.Replay.{callOf, callLines, callsOf, runLines, Rises, GoneTold, ReplayRight}
 
 -- ---- an event is a call
 
@@ -50,13 +52,27 @@ same-market m (event.Submit tenant count) lent = refl
 same-market m event.Turn lent = refl
 same-market m event.Open lent = refl
 
-same-lines : (m : Market) (e : Event) (lent : List ℕ) → eventPrinted m e lent .bytes ≡ linesOf m (callOf e lent) (step m (callOf e lent))
+same-lines : (m : Market) (e : Event) (lent : List ℕ) → eventPrinted m e lent .bytes ≡ callLines m (callOf e lent) (step m (callOf e lent))
 unfolding eventPrinted settingsPrinted awayPrinted submitPrinted turnPrinted openEvent
 same-lines m (event.Settings given) lent = refl
 same-lines m (event.Away quote) lent = refl
 same-lines m (event.Submit tenant count) lent = refl
 same-lines m event.Turn lent = refl
 same-lines m event.Open lent = refl
+
+tape-lines : (m : Market) (xs : List Sent) → linesOf m xs ≡ runLines m (callsOf xs)
+unfolding linesOf
+tape-lines m [] = refl
+tape-lines m (x ∷ xs) =
+    let p = eventPrinted m (x .event) (x .numbers) in
+    let c = callOf (x .event) (x .numbers) in
+    ap (λ (l : List ℕ). l ++ linesOf (p .market) xs) (same-lines m (x .event) (x .numbers))
+    ∙ ap (λ (l : List ℕ). callLines m c (step m c) ++ l)
+    (ap (λ (after : Market). linesOf after xs) (same-market m (x .event) (x .numbers)) ∙ tape-lines (step m c .market) xs)
+
+tape-told : (tape : List ℕ) → outputOf tape ≡ runLines newMarket (callsOf (readAll tape .events)) ++ lastLine (readAll tape .ending)
+unfolding outputOf printedOn
+tape-told tape = ap (λ (l : List ℕ). l ++ lastLine (readAll tape .ending)) (tape-lines newMarket (readAll tape .events))
 
 -- ---- what a column lists
 
@@ -160,6 +176,7 @@ unfolding eventPrinted openEvent
 replay-right = record {
   market = same-market;
   lines = same-lines;
+  tape = tape-told;
   gone = λ m lent price volume sound c is. prints-gone m price volume sound c (outcome m rows blank) is;
   none-gone = λ m lent said. prints-none m (outcome m rows blank) said;
 }
