@@ -55,7 +55,7 @@ abbrev pub mach-row : List Fill → Val
 mach-row ys = only (array-vals (LL.vals F.the-type F′.the-laws) ys)
 
 -- the row as a local at l, and lent from there under the name δ: as a reference and as the machine value of a slice
-abbrev pub cell-row : ℕ → Val → Fml
+abbrev cell-row : ℕ → Val → Fml
 cell-row l v = fat fullShare (tyArray F′.mir 216) l 0 v
 
 abbrev pub lent-row : ℕ → GName → List Fill → RefT (List Fill)
@@ -68,7 +68,7 @@ abbrev pub mut-row : Lifetime → ℕ → ℕ → GName → List Fill → Fml
 mut-row ℓ ν l δ ys = MutSlice ℓ (ν ∷ []) RF .own (lent-row l δ ys) (slice-at l ys ∷ [])
 
 -- the lender's part
-abbrev pub held-row : ℕ → ℕ → GName → List Fill → Fml
+abbrev held-row : ℕ → ℕ → GName → List Fill → Fml
 held-row ν l δ ys = flent (ν ∷ []) (Held RF (length ys) l 0 δ)
 
 module _ {M : Type 1} (𝓤 : URA M) (H : Heap 𝓤) (A : Atoms 𝓤) (at-mem : Memory → SProp 𝓤) (run : Routine → Fun 𝓤) where

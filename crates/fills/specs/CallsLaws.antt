@@ -9,7 +9,7 @@ use lib.Dec.{ltb}
 use borrow.Author.Tests.{ltb-false, lt-ltb}
 use Rattle.units.specs.Tests.{isNot, pick, picked}
 use Rattle.rows.specs.Rows.{rows}
-use Rattle.book.specs.Book.{Book, crosses}
+use Rattle.book.specs.Book.{crosses}
 use Rattle.book.specs.declared.Fill.{Fill}
 use Rattle.book.specs.Fills.{stored, Fits}
 use Rattle.book.specs.RecordLaws.{records-most}
@@ -32,7 +32,7 @@ use Rattle.session.specs.Market.{Market, Done, floorOn}
 use Rattle.session.specs.Turn.{turnRefusal, turnOf, turnOfLane, turnCases, onceTaken, headEntry, answerOf, fillsIn}
 use Rattle.dealing.specs.Open.{wayRefusal}
 use Rattle.session.specs.Open.{choiceOf, openCases, openRefusal, openQuiet, openAt, openOf, fillsIn as fillsOpened}
-use Rattle.fills.specs.Calls.{Stored, inRow, blank, turnWith, openWith}
+use Rattle.fills.specs.Calls.{inRow, blank, turnWith, openWith}
 
 -- a call wrote n fills or fewer
 abbrev Few : {A : Type 0} → (A → ℕ) → ℕ → Done A → Type 0

@@ -27,7 +27,7 @@ use Rattle.lanes.specs.Rotation.{served}
 use Rattle.session.specs.Market.{Market, Done, floorOn}
 use Rattle.session.specs.Turn.{turnOf, turnOfLane, onceTaken, headEntry, turnMade, fillsIn}
 use Rattle.session.specs.Open.{openQuiet, openAt, openOf, fillsIn as fillsOpened}
-use Rattle.fills.specs.Calls.{Stored, inRow, blank, turnWith, openWith}
+use Rattle.fills.specs.Calls.{inRow, blank, turnWith, openWith}
 
 -- a record that is written is the same over any numbers
 written-same : (r : Resting) (owner price : ℕ → ℕ) (was was′ : List ℕ) (k : ℕ) → k < records r
