@@ -3,7 +3,6 @@ use mathlib.Core.Path.{_≡_, refl}
 use mathlib.Core.Bool.{true, false}
 use mathlib.Core.List.{List, [], _∷_}
 use Prim.Native.Nat.{ℕ}
-use Rattle.units.specs.Units.{cents, contracts}
 use Rattle.units.specs.GridLaws.{E4, e4 as grid-two}
 use Rattle.units.specs.Tests.{_and_, _or_, isNot, pick}
 use Rattle.units.specs.Cases.{lowerIf}
@@ -31,14 +30,15 @@ use Rattle.lanes.specs.Rotation.{distance, servedBy, served}
 use Rattle.lanes.specs.Examples.{E10, e10 as lanes-served}
 use Rattle.price.specs.Price.{valid, midpoint, usable, firstValid, priceOf}
 use Rattle.price.specs.Examples.{E6, e6 as prices-chosen}
-use Rattle.session.specs.declared.TurnAnswer.the-variants as turn-answer
-use Rattle.session.specs.declared.OpenAnswer.the-variants as open-answer
 use Rattle.session.specs.Market.{Market}
 use Rattle.dealing.specs.Deal.{quotesOn, filledOf, dispositionIn, bookAfter, trades, ordered, dealt}
+use Rattle.session.specs.Turn as turn
 use Rattle.session.specs.Turn.{turnRefusal, afterTaking, turnOf}
 use Rattle.dealing.specs.Open.{choiceIn, wayRefusal}
+use Rattle.session.specs.Open as opening
 use Rattle.session.specs.Open.{openAt, openOf}
 use Rattle.demands.specs.Markets.{terms, awayQuote, sessionOn}
+use Rattle.demands.specs.Values.{turnLine, openLine}
 
 -- offers at one price, of the sizes given, numbered from 1
 abbrev offersOf : List ℕ → ℕ → Book
@@ -112,12 +112,12 @@ pub record Examples : Type 0 where
   pub e6 : E6
   -- E7 offers 103×4, 105×6, away offer 104, D and F 10, day buy 20 at 106: 4 at 103, disposition 4.
   pub e7 :
-      (turnOf seventh 216 [] .answer ≡ turn-answer.Accepted 0 3 (contracts 4) 4 1)
+      (turn.printed (turnOf seventh 216 [] .answer) ≡ turnLine 0 0 3 4 4)
       × (turnOf seventh 216 [] .records ≡ 1 ∷ 3 ∷ 4 ∷ 103 ∷ 0 ∷ 0 ∷ 0 ∷ 0 ∷ 0 ∷ 0 ∷ 0 ∷ 0 ∷ [])
       × (turnOf seventh 216 [] .market .book .sizes ≡ 0 ∷ 6 ∷ 0 ∷ [])
   -- E8 offers 100×1, 104×1, no away, D 5, F 20, day buy 9 at 112: 2 filled, disposition 3.
   pub e8 :
-      (turnOf eighth 216 [] .answer ≡ turn-answer.Accepted 0 3 (contracts 2) 3 2)
+      (turn.printed (turnOf eighth 216 [] .answer) ≡ turnLine 0 0 3 2 3)
       × (turnOf eighth 216 [] .market .book .sizes ≡ 0 ∷ 0 ∷ 0 ∷ [])
   -- E9 put, strike 500, grid 2: buy 500 is 12, 495 passes.
   pub e9 : E9
@@ -125,7 +125,7 @@ pub record Examples : Type 0 where
   pub e10 : E10
   -- E11 P 105; buys #1 110×5, #2 105×5; sells #3 104×4, #4 108×3: volume 4, #1 and #3 trade 4, then #1 is cancelled.
   pub e11 :
-      (openOf eleventh 216 [] .answer ≡ open-answer.AtPrice (cents 105) (contracts 4) 2)
+      (opening.printed (openOf eleventh 216 [] .answer) ≡ openLine 0 105 4)
       × (openOf eleventh 216 [] .records ≡ 1 ∷ 0 ∷ 4 ∷ 105 ∷ 3 ∷ 2 ∷ 4 ∷ 105 ∷ 0 ∷ 0 ∷ 0 ∷ 0 ∷ 0 ∷ 0 ∷ 0 ∷ 0 ∷ [])
       × (openOf eleventh 216 [] .market .book .sizes ≡ 0 ∷ 5 ∷ 0 ∷ 3 ∷ [])
   -- E12 0 is 00, 128 is 80 01, 300 is AC 02; 80 00 is 31.

@@ -1,9 +1,10 @@
 -- The demands on the market, as theorems.
 pub mod Markets
+pub mod Runs
+pub mod Values
 pub mod Examples
 pub mod Worked
 pub mod WorkedTape
-pub mod Runs
 pub mod RunLaws
 pub mod InOrder
 pub mod InOrderLaws
@@ -16,6 +17,7 @@ pub mod Outcomes
 pub mod TurnCases
 pub mod OpenCases
 pub mod Shape
+pub mod Class
 pub mod Accepted
 pub mod Soundness
 pub mod SoundnessProof
@@ -28,6 +30,7 @@ pub mod Told
 pub mod TalliesProof
 pub mod TalliesRead
 pub mod TalliesReadProof
+pub mod Reaching
 pub mod Instances
 pub mod Demand2Refusals
 pub mod Demand2Stores

@@ -1,4 +1,4 @@
--- Small markets for the examples: a book of a few rows, a session with given terms, and one entry or a few that wait.
+-- Markets for the examples: a fresh one of 216 rows, and small ones with given terms and one entry that waits.
 use mathlib.Core.Bool.{Bool, true, false}
 use mathlib.Core.List.{_∷_}
 use Prim.Native.Nat.{ℕ}
@@ -10,11 +10,16 @@ use Rattle.entry.specs.declared.Away.{Away}
 use Rattle.entry.specs.declared.Settings.{Settings}
 use Rattle.entry.specs.declared.Terms.{Terms}
 use Rattle.session.specs.declared.Session.{Session}
+use Rattle.session.specs.Market.{Market}
+use Rattle.replay.specs.Output.{newMarket}
 
--- the settings of the worked example: time class, grid 1, call, strike 10000, D 10, F 20, x 10, least 25, greatest 500,
--- no prints
-abbrev pub worked : Settings
-worked = record {
+-- a new session beside an empty book of 216 rows, as the program starts
+abbrev pub fresh : Market
+fresh = newMarket
+
+-- time class, grid 1, call, strike 10000, D 10, F 20, x 10, least 25, greatest 500, and a last print
+abbrev pub printing : ℕ → Settings
+printing print = record {
   allocation = 1;
   grid = 1;
   option = 1;
@@ -24,9 +29,13 @@ worked = record {
   percent = 10;
   least = cents 25;
   greatest = cents 500;
-  print = cents 0;
+  print = cents print;
   close = cents 0;
 }
+
+-- the settings of the worked example, with no prints
+abbrev pub worked : Settings
+worked = printing 0
 
 -- the same with other buffers and another last print, on grid 1
 abbrev pub terms : ℕ → ℕ → ℕ → Terms

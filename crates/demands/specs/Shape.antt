@@ -6,13 +6,13 @@ use Prim.Native.Nat.{ℕ, _+_, _-_, _%_, _<_}
 use native.Mathlib.Omega.{arith}
 use lib.ListN.{length, length-set, length-replicate}
 use Rattle.units.specs.declared.Cents.{Cents}
+use Rattle.units.specs.declared.grid.Grid.{Grid}
 use Rattle.units.specs.Units.{tenants}
 use Rattle.rows.specs.Rows.{rows}
 use Rattle.book.specs.Book.{Book}
 use Rattle.opening.specs.Opening.{afterOpening}
 use Rattle.entry.specs.declared.Settings.{Settings}
-use Rattle.entry.specs.declared.Terms.{Terms}
-use Rattle.entry.specs.Settings.{termsOf}
+use Rattle.entry.specs.Settings.{inRange, termsOf}
 use Rattle.lanes.specs.declared.Lanes.{Lanes}
 use Rattle.lanes.specs.Ring.{depth, headOf, lenOf, joined, taken}
 use Rattle.tally.specs.declared.Tally.{Tally}
@@ -35,7 +35,7 @@ use Rattle.demands.specs.OpenCases as open-cases
 -- P after each way that a call can come out
 pub record Keeps (P : Market → Type 0) (m : Market) : Type 0 where
   pub refused : P m
-  pub reset : (t : Terms) → P (resetOn m t)
+  pub reset : (given : Settings) (g : Grid) → inRange given ≡ true → P (resetOn m (termsOf given g))
   pub quoted : (bid offer : Cents) → P (marketOf (withAway (m .session) bid offer) (m .book) (m .entries))
   pub joins : (tenant count : ℕ) (ns : List ℕ) → P (withEntries m tenant count ns)
   pub takes : (was : List ℕ) (t : ℕ) (d : TurnDone) → m .session .accepted ≡ true → Leaves m was t d → P (d .market)
@@ -49,7 +49,7 @@ module _ (P : Market → Type 0) (m : Market) (keeps : Keeps P m) where
 
   set-has : (given : Settings) {d : Called} → SetCame m given d → P (d .market)
   set-has given (outcomes.refused none) = keeps .refused
-  set-has given (outcomes.accepted g e h) = keeps .reset (termsOf given g)
+  set-has given (outcomes.accepted g e h) = keeps .reset given g h
 
   turn-has : (lent : ℕ) (was : List ℕ) {d : TurnDone} → turn-cases.Outcome m lent was d → P (d .market)
   turn-has lent was (turn-cases.refused h) = keeps .refused
@@ -92,7 +92,7 @@ shape-keeps : (m : Market) → Shaped m → Keeps Shaped m
 unfolding joined
 shape-keeps m s = record {
   refused = s;
-  reset = λ t. record {
+  reset = λ given g _. record {
     places = s .places;
     heads-long = length-replicate {A = ℕ} tenants 0;
     lens-long = length-replicate {A = ℕ} tenants 0;

@@ -198,6 +198,7 @@ pub record Leaves (m : Market) (was : List ℕ) (t : ℕ) (d : TurnDone) : Type 
   pub not-refused : isRefused (turned (d .answer)) ≡ false
   pub lanes : d .market .session .lanes ≡ laneTaken (m .session .lanes) t
   pub accepted : d .market .session .accepted ≡ m .session .accepted
+  pub terms : d .market .session .terms ≡ m .session .terms
   pub places : d .market .book .places ≡ m .book .places
   pub tallies-long : length (d .market .session .tallies) ≡ length (m .session .tallies)
   pub down : kindOf (d .answer) ≡ 1 → (d .market ≡ onceTaken m t) × (d .records ≡ was)
@@ -214,6 +215,7 @@ module _ (m : Market) (was : List ℕ) (t : ℕ) where
     not-refused = taken;
     lanes = refl;
     accepted = refl;
+    terms = refl;
     places = places;
     tallies-long = long;
     down = down;

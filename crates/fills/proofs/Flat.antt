@@ -1,5 +1,5 @@
 -- What `turn` and `open` have in common: the session and the columns as machine values; the flat records, a local that
--- begins at zeros and is lent twice; what the calls have told once they are back; and the call of `store_all`, to which
+-- begins blank and is lent twice; what the calls have told once they are back; and the call of `store_all`, to which
 -- the row of fills and the flat records are passed. The steps are rules of `types.Kit`: each takes the entries that it
 -- is about at the head of any context. Assumes nothing but `Given`.
 use mathlib.Core.Path.{_≡_, refl}
@@ -46,7 +46,7 @@ use Rattle.session.proofs.Session as S
 use Rattle.session.proofs.Session.Laws as S′
 use Rattle.book.specs.declared.Fill.{Fill}
 use Rattle.book.specs.Fills.{stored, Fits}
-use Rattle.fills.specs.Calls.{blank}
+use Rattle.fills.specs.Calls.{unwritten, blank}
 use Rattle.fills.proofs.LentArray.{array-is, array-laid, array-found}
 use Rattle.book.proofs.Fill as F
 use Rattle.fills.proofs.store_all as store-all
@@ -74,18 +74,15 @@ RF = F.the-row
 abbrev pub AR : RattleType
 AR = Array u32 864
 
--- the flat records as they begin, and a machine value of them
-abbrev pub zeros : List ℕ
-zeros = blank
-
+-- a machine value of flat records, and of them as they begin
 abbrev mach-rs : List ℕ → Val
 mach-rs rs = only (array-vals (uint-vals w32) rs)
 
-abbrev mach-0 : Val
-mach-0 = arrayVal (replicate 864 (vint w32 0))
+abbrev mach-blank : Val
+mach-blank = arrayVal (replicate 864 (vint w32 unwritten))
 
-is-0 : Is AR zeros (mach-0 ∷ [])
-is-0 = array-is u32 0 (vint w32 0) (refl, lit< tt) 864
+is-blank : Is AR blank (mach-blank ∷ [])
+is-blank = array-is u32 unwritten (vint w32 unwritten) (refl, lit< tt) 864
 
 -- a reference to them, at the place l, and the machine value of a row lent
 abbrev pub xr : ℕ → GName → List ℕ → RefT (List ℕ)
@@ -124,8 +121,8 @@ module _ {M : Type 1} (𝓤 : URA M) (H : Heap 𝓤) (A : Atoms 𝓤) (at-mem : 
   to-store κ q x n ν l ε rs = (((κ, (ν ∷ [], tt)), (q, (fullShare, tt)), tt, (x, (xr l ε rs, (n, tt))), (slice-of x ∷ [], (vptr l 0 ∷ [], (vint w64 n ∷ [], tt)))), tt)
 
 module _ {M : Type 1} (𝓤 : URA M) (H : Heap 𝓤) (A : Atoms 𝓤) (W : Given 𝓤 H A) where
-  pub typed-0 : Holds (hasTy (tyArray (tyInt w32) 864) mach-0) × WT mach-0
-  typed-0 = array-lawful 𝓤 H A W u32 (uint-lawful 𝓤 H A W w32) 864 .typed zeros (mach-0 ∷ []) is-0 .0
+  pub typed-blank : Holds (hasTy (tyArray (tyInt w32) 864) mach-blank) × WT mach-blank
+  typed-blank = array-lawful 𝓤 H A W u32 (uint-lawful 𝓤 H A W w32) 864 .typed blank (mach-blank ∷ []) is-blank .0
 
   -- the caller has what `store_all` asks, where the fills fit
   goes-store : (at-mem : Memory → SProp 𝓤) (run : Routine → Fun 𝓤) (κ : Lft) (q : Share) (x : RefT (List Fill)) (n ν l : ℕ) (ε : GName) (rs : List ℕ) → Fits n (x .now)
@@ -143,11 +140,11 @@ module _ {M : Type 1} (𝓤 : URA M) (H : Heap 𝓤) (A : Atoms 𝓤) (W : Given
 module _ {M : Type 1} {𝓤 : URA M} {H : Heap 𝓤} {A : Atoms 𝓤} {K : Type 0} {W : Given 𝓤 H A} {Γ : List (Item 𝓤)} {G : Goal 𝓤 H} where
   -- the flat records, as they begin in the local at l, are lent as a `&mut` for a lifetime ν of the call,
   pub lends-flat : K → Soaks G → (ℓ : Lifetime) (l : ℕ)
-      → ((ν : ℕ) (δ : GName) → Seq K W (‵ (mut-rs ℓ ν l δ zeros) ∷ ‵ (flent (ν ∷ []) (Body (mem AR) l 0 δ)) ∷ ‵ (token ν) ∷ Γ) G)
-      → Seq K W (‵ (cell-rs l mach-0) ∷ Γ) G
+      → ((ν : ℕ) (δ : GName) → Seq K W (‵ (mut-rs ℓ ν l δ blank) ∷ ‵ (flent (ν ∷ []) (Body (mem AR) l 0 δ)) ∷ ‵ (token ν) ∷ Γ) G)
+      → Seq K W (‵ (cell-rs l mach-blank) ∷ Γ) G
   lends-flat t z ℓ l k =
-      use1 W (‵ (lies-rs l zeros)) (array-laid u32 (uint-vals w32) (uint-tells w32) 864 𝓤 H A W (uint-makes 𝓤 H A W w32) zeros mach-0 l 0 is-0) $ lft-new t z (λ ν. move t (1 ∷ []) $
-      use1 W (later (some (λ (δ : GName). ‵ (mut-rs ℓ ν l δ zeros) ⊛ ‵ (flent (ν ∷ []) (Body (mem AR) l 0 δ))))) (lends-ref 𝓤 H A W AR ℓ (ν ∷ []) zeros l 0) $ await t z $ pick t (λ δ. split t $ k ν δ))
+      use1 W (‵ (lies-rs l blank)) (array-laid u32 (uint-vals w32) (uint-tells w32) 864 𝓤 H A W (uint-makes 𝓤 H A W w32) blank mach-blank l 0 is-blank) $ lft-new t z (λ ν. move t (1 ∷ []) $
+      use1 W (later (some (λ (δ : GName). ‵ (mut-rs ℓ ν l δ blank) ⊛ ‵ (flent (ν ∷ []) (Body (mem AR) l 0 δ))))) (lends-ref 𝓤 H A W AR ℓ (ν ∷ []) blank l 0) $ await t z $ pick t (λ δ. split t $ k ν δ))
 
   -- and once that is over, the local is back at the last of them
   pub flat-back : K → Soaks G → (ν l : ℕ) (δ : GName) (rs : List ℕ)

@@ -2,11 +2,12 @@
 use Prim.Native.Nat.{ℕ, _*_}
 use mathlib.Core.List.{List}
 use lib.ListN.{length, replicate}
+use Rattle.units.specs.Units.{tenants, cents, contracts}
 use Rattle.rows.specs.Rows.{rows}
 use Rattle.book.specs.declared.Fill.{Fill}
 use Rattle.book.specs.Book.{Book}
 use Rattle.book.specs.Records.{fields}
-use Rattle.book.specs.Fills.{noFill, stored}
+use Rattle.book.specs.Fills.{stored}
 use Rattle.session.specs.declared.Turned.{Turned}
 use Rattle.session.specs.declared.TurnAnswer.{TurnAnswer}
 use Rattle.session.specs.declared.Opened.{Opened}
@@ -32,9 +33,14 @@ openStored r book entries fills = record { market = marketOf (r .session) book e
 abbrev pub inRow : {A : Type 0} → (A → ℕ) → Done A → List Fill → Stored A
 inRow count d row = record { market = d .market; answer = d .answer; fills = stored (d .records) (count (d .answer)) row }
 
+-- what a number of the flat records holds before a record is written there; `turn-over` and `open-over` of FlatLaws say
+-- that any other makes no difference
+abbrev pub unwritten : ℕ
+unwritten = 1
+
 -- flat records with nothing written
 abbrev pub blank : List ℕ
-blank = replicate (fields * rows) 0
+blank = replicate (fields * rows) unwritten
 
 -- the turn of the rules, with as many fill records lent as the row has
 abbrev pub turnWith : Market → List Fill → Stored TurnAnswer
@@ -43,6 +49,10 @@ turnWith m row = inRow fillsIn (turnOf m (length row) blank) row
 abbrev pub openWith : Market → List Fill → Stored OpenAnswer
 openWith m row = inRow fillsOpened (openOf m (length row) blank) row
 
--- a row of fills with nothing in them, one for each row of the book
+-- a fill of no tenant, as tenants are 0 to 8
+abbrev pub emptyFill : Fill
+emptyFill = record { number = 0; tenant = tenants; quantity = contracts 0; price = cents 0 }
+
+-- a row of such fills, one for each row of the book
 abbrev pub emptyRow : List Fill
-emptyRow = replicate rows noFill
+emptyRow = replicate rows emptyFill

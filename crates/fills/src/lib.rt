@@ -27,6 +27,10 @@ ghost use Rattle.session.specs.Turn.{printed, fillsIn};
 ghost use Rattle.session.specs.Open.{printed as printedOpen, fillsIn as fillsOpened};
 ghost use Rattle.fills.specs.Calls.{turnStored, turnWith, openStored, openWith};
 
+// What the flat records begin with. Any number does, since only what is written is stored; with 0 the compiler would have
+// them cleared byte by byte at each call.
+const UNWRITTEN: u32 = 1;
+
 // The fill whose four numbers stand at place i of the flat records.
 fn record_at(records: &Records, i: usize) -> Fill
     requires { ⌜ i < rows ⌝ }
@@ -95,7 +99,7 @@ pub fn turn(
     ensures values { λ r. ⌜ printed (r .answer)
         ≡ printed (turnWith (marketFound s sides prices sizes owners numbers entries) (now (fills .entry)) .answer) ⌝ }
 {
-    let mut records = [0u32; 864];
+    let mut records = [UNWRITTEN; 864];
     let turned = turn_core(
         s,
         sides,
@@ -130,7 +134,7 @@ pub fn open(
     ensures values { λ r. ⌜ ((entries : List ℕ) → printedOpen (r .answer)
         ≡ printedOpen (openWith (marketOf s (before sides prices sizes owners numbers) entries) (now (fills .entry)) .answer)) ⌝ }
 {
-    let mut records = [0u32; 864];
+    let mut records = [UNWRITTEN; 864];
     let opened = open_core(
         s,
         sides,

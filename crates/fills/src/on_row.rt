@@ -31,13 +31,16 @@ pub struct OpenedRow {
     pub row: [Fill; 216],
 }
 
+// The tenant of a fill with nothing in it: tenants are 0 to 8.
+const NO_TENANT: u32 = 9;
+
 // Fills with nothing in them.
 pub(crate) fn no_fills() -> [Fill; 216]
     ensures { λ r. ⌜ r ≡ emptyRow ⌝ }
 {
     let none = Fill {
         number: 0,
-        tenant: 0,
+        tenant: NO_TENANT,
         quantity: Contracts(0),
         price: Cents(0),
     };

@@ -11,7 +11,7 @@ pub enum Several {
 }
 
 // So many numbers, stored from the front of the lent memory as far as it reaches.
-pub fn read_several(s: &[u8], at: usize, n: usize, out: &mut [u32]) -> Several
+pub(crate) fn read_several(s: &[u8], at: usize, n: usize, out: &mut [u32]) -> Several
     ensures answer { λ r. ⌜ r ≡ severalAt n (now (s .entry)) at ⌝ }
     ensures kept { λ _. ⌜ now (out .exit) ≡ stored (valuesAt n (now (s .entry)) at) (now (out .entry)) ⌝ }
 {

@@ -53,8 +53,11 @@ lowest-bounds number g h = subst LowSteps h (by (eqb number 1) (eqb number 2) (e
 -- E4 grid 2: 299 and 305 pass, 301 doesn't.
 abbrev pub E4 : Type 0
 E4 =
-    (g : Grid) → gridOf 2 ≡ One g →
-    (onGrid g (cents 299) ≡ true) × (onGrid g (cents 305) ≡ true) × (onGrid g (cents 301) ≡ false)
+    (g : Grid)
+    × (gridOf 2 ≡ One g)
+    × (onGrid g (cents 299) ≡ true)
+    × (onGrid g (cents 305) ≡ true)
+    × (onGrid g (cents 301) ≡ false)
 
 pub e4 : E4
-e4 g h = let e : stepping 1 5 ≡ g = cc in rw (← e) (refl, refl, refl)
+e4 = (stepping 1 5, refl, refl, refl, refl)

@@ -53,13 +53,13 @@ use Rattle.session.specs.Sound.{Sound, BookSound}
 use Rattle.session.specs.Open.{openOf, printed, fillsIn, openDone}
 use Rattle.book.specs.declared.Fill.{Fill}
 use Rattle.book.specs.Fills.{stored, Fits}
-use Rattle.fills.specs.Calls.{Stored, openStored, openWith}
+use Rattle.fills.specs.Calls.{Stored, openStored, unwritten, blank, openWith}
 use Rattle.fills.specs.CallsLaws.{open-few, open-within, all-told}
 use Rattle.session.proofs.Session as S
 use Rattle.session.proofs.Session.Laws as S′
 use Rattle.session.proofs.Opened as T
 use Rattle.session.proofs.Opened.Laws as T′
-use Rattle.fills.proofs.Flat.{RS, mach-of, A-216, L-216, ptr-of, RF, AR, zeros, typed-0, typed-of, xr, slice-of, StoreAll, lends-flat, flat-back, shares-flat, flat-whole, told-three, told-one, stores}
+use Rattle.fills.proofs.Flat.{RS, mach-of, A-216, L-216, ptr-of, RF, AR, typed-blank, typed-of, xr, slice-of, StoreAll, lends-flat, flat-back, shares-flat, flat-whole, told-three, told-one, stores}
 use Rattle.fills.proofs.Several.{says-two, says-three}
 use Rattle.session.proofs.open.open_core as open-core
 use Rattle.session.proofs.open.open_core.Symbol as open-core-def
@@ -126,13 +126,13 @@ module _ {M : Type 1} (𝓤 : URA M) (H : Heap 𝓤) (A : Atoms 𝓤) (W : Given
 
   -- what `open_core` ensures, and what `open` does
   abbrev Exact : Opened → Each → List ℕ → Type 0
-  Exact t w rs = (entries : List ℕ) → openDone t (after w) entries rs ≡ openOf (marketOf h before entries) (length ys) zeros
+  Exact t w rs = (entries : List ℕ) → openDone t (after w) entries rs ≡ openOf (marketOf h before entries) (length ys) blank
 
   abbrev StaysSound : Opened → Each → Type 0
   StaysSound t w = (entries : List ℕ) → Sound (marketOf h before entries) → Sound (marketOf (t .session) (after w) entries)
 
   abbrev Values : Opened → Type 0
-  Values t = (entries : List ℕ) → printed (t .answer) ≡ printed (openOf (marketOf h before entries) (length ys) zeros .answer)
+  Values t = (entries : List ℕ) → printed (t .answer) ≡ printed (openOf (marketOf h before entries) (length ys) blank .answer)
 
   abbrev Told : Opened → Each → List Fill → Type 0
   Told t w zs = (entries : List ℕ) → openStored t (after w) entries zs ≡ openWith (marketOf h before entries) ys
@@ -144,7 +144,7 @@ module _ {M : Type 1} (𝓤 : URA M) (H : Heap 𝓤) (A : Atoms 𝓤) (W : Given
       so : (entries : List ℕ) → Fits n ys × (openStored t (after w) entries (stored rs n ys) ≡ openWith (marketOf h before entries) ys)
       so entries =
           let m = marketOf h before entries in
-          all-told fillsIn ys (openDone t (after w) entries rs) (openOf m (length ys) zeros) n (open-few m (length ys) zeros) (open-within m (length ys) zeros refl) (e entries) k
+          all-told fillsIn ys (openDone t (after w) entries rs) (openOf m (length ys) blank) n (open-few m (length ys) blank) (open-within m (length ys) blank refl) (e entries) k
 
   abbrev Post : Val → SProp 𝓤
   Post = walkOf 𝓤 H A this.ended stayed (this.clauses 𝓤 H A at-mem run) .post (((κ₀, (κ₁, (κ₂, (κ₃, (κ₄, (κ₅, tt)))))), (q₀, (q₁, (q₂, (q₃, (q₄, (q₅, tt)))))), tt, a, vals), tt)
@@ -173,14 +173,14 @@ module _ {M : Type 1} (𝓤 : URA M) (H : Heap 𝓤) (A : Atoms 𝓤) (W : Given
 
   -- what each callee's triple binds outside, and that the caller has what it asks
   abbrev arg-core : ℕ → GName → Session × (RefT (List ℕ) × (RefT (List ℕ) × (RefT (List ℕ) × (RefT (List ℕ) × (RefT (List ℕ) × (ℕ × (RefT (List ℕ) × (Unit {0}))))))))
-  arg-core l δ = (h, (x₀, (x₁, (x₂, (x₃, (x₄, (length ys, (xr l δ zeros, tt))))))))
+  arg-core l δ = (h, (x₀, (x₁, (x₂, (x₃, (x₄, (length ys, (xr l δ blank, tt))))))))
 
   abbrev to-core : ℕ → ℕ → GName → Core 𝓤 H A at-mem run .Ghost
   to-core ν l δ = (((κ₀, (κ₁, (κ₂, (κ₃, (κ₄, (ν ∷ [], tt)))))), (q₀, (q₁, (q₂, (q₃, (q₄, (fullShare, tt)))))), tt, arg-core l δ, (mach-of h ∷ [], (ptr-of x₀ ∷ [], (ptr-of x₁ ∷ [], (ptr-of x₂ ∷ [], (ptr-of x₃ ∷ [], (ptr-of x₄ ∷ [], (vint w64 (length ys) ∷ [], (vptr l 0 ∷ [], tt))))))))), tt)
 
-  goes-core : (ν l : ℕ) (δ : GName) → ent 𝓤 (sep 𝓤 (sem 𝓤 H A Lent) (sep 𝓤 (A .lft (ν ∷ []) fullShare) (sem 𝓤 H A (MutRef (named 5) (ν ∷ []) AR .own (xr l δ zeros) (vptr l 0 ∷ []))))) (Core 𝓤 H A at-mem run .pre (to-core ν l δ))
+  goes-core : (ν l : ℕ) (δ : GName) → ent 𝓤 (sep 𝓤 (sem 𝓤 H A Lent) (sep 𝓤 (A .lft (ν ∷ []) fullShare) (sem 𝓤 H A (MutRef (named 5) (ν ∷ []) AR .own (xr l δ blank) (vptr l 0 ∷ []))))) (Core 𝓤 H A at-mem run .pre (to-core ν l δ))
   goes-core ν l δ =
-      qed W (‵ Lent ∷ ‵ (flft (ν ∷ []) fullShare) ∷ ‵ (MutRef (named 5) (ν ∷ []) AR .own (xr l δ zeros) (vptr l 0 ∷ [])) ∷ []) ∵ says-two ! ok (length-replicate {A = ℕ} 864 0) $
+      qed W (‵ Lent ∷ ‵ (flft (ν ∷ []) fullShare) ∷ ‵ (MutRef (named 5) (ν ∷ []) AR .own (xr l δ blank) (vptr l 0 ∷ [])) ∷ []) ∵ says-two ! ok (length-replicate {A = ℕ} 864 unwritten) $
       fsplit ! $ move ! (1 ∷ []) $ fsplit ! $ move ! (1 ∷ []) $ fsplit ! $ move ! (1 ∷ []) $ fsplit ! $ move ! (1 ∷ []) $ fsplit ! $ move ! (1 ∷ []) $ fsplit ! $ move ! (1 ∷ []) $ fsplit ! $ move ! (1 ∷ []) $ fsplit ! $ move ! (1 ∷ []) $ fsplit ! $ nothing ! $ nothing ! $ owned ! usize (Is usize) (uint-makes 𝓤 H A W w64) (length ys) _ (refl, room .0) $ owned ! RS (Is RS) (LL.makes S.the-type S′.the-plain 𝓤 H A) h _ is-h $
       -- [session; room; true′; true; owners; numbers; sizes; prices; sides; token of numbers; token of owners; token of
       -- sizes; token of prices; token of sides; ν's token; flat]
@@ -228,7 +228,7 @@ module _ {M : Type 1} (𝓤 : URA M) (H : Heap 𝓤) (A : Atoms 𝓤) (W : Given
         alloc1 ! (λ l₀. alloc1 ! (λ l₁. alloc1 ! (λ l₂. alloc1 ! (λ l₃. alloc1 ! (λ l₄. alloc1 ! (λ l₅. alloc1 ! (λ l₆. alloc1 ! (λ l₇. alloc1 ! (λ l₈. alloc1 ! (λ l₉. alloc1 ! (λ l₁₀. alloc1 ! (λ l₁₁. alloc1 ! (λ l₁₂. alloc1 ! (λ l₁₃. alloc1 ! (λ l₁₄. alloc1 ! (λ l₁₅. alloc1 ! (λ l₁₆. alloc1 ! (λ l₁₇. alloc0 ! $ params1 ! $
         pass1 ! (init ! 32 refl (typed-of 𝓤 H A W h is-h)) $ pass1 ! (init ! 30 refl (tt, tt)) $ pass1 ! (init ! 28 refl (tt, tt)) $ pass1 ! (init ! 26 refl (tt, tt)) $ pass1 ! (init ! 24 refl (tt, tt)) $ pass1 ! (init ! 22 refl (tt, tt)) $ pass1 ! (init ! 20 refl (tt, (tt, (record { fits = room .0 }, tt)))) $ pass0 ! $
         -- [_17; …; and so on down to the room for _0; …; the columns; the row's token; what the row owns]
-        assigns ! (rep ! 864 (lit ! tt)) (from ! (stop !)) (init ! 18 refl (typed-0 𝓤 H A W)) $
+        assigns ! (rep ! 864 (lit ! tt)) (from ! (stop !)) (init ! 18 refl (typed-blank 𝓤 H A W)) $
         assigns ! (addr ! (from ! (hop ! (look ! 26 refl) (stop !)))) (from ! (stop !)) (init ! 12 refl (tt, tt)) $
         assigns ! (of-opd ! (load ! (from ! (fld ! refl (stop !))) (look-in ! 20 (sub ! 1 refl (whole !))))) (from ! (stop !)) (init ! 10 refl (tt, record { fits = room .0 })) $
         assigns ! (addr ! (from ! (stop !))) (from ! (stop !)) (init ! 8 refl (tt, tt)) $

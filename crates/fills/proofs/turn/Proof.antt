@@ -54,13 +54,13 @@ use Rattle.session.specs.Sound.{Sound}
 use Rattle.session.specs.Turn.{turnDone, turnOf, printed, fillsIn}
 use Rattle.book.specs.declared.Fill.{Fill}
 use Rattle.book.specs.Fills.{stored, Fits}
-use Rattle.fills.specs.Calls.{Stored, turnStored, turnWith}
+use Rattle.fills.specs.Calls.{Stored, turnStored, unwritten, blank, turnWith}
 use Rattle.fills.specs.CallsLaws.{turn-few, turn-within, all-told}
 use Rattle.session.proofs.Session as S
 use Rattle.session.proofs.Session.Laws as S′
 use Rattle.session.proofs.Turned as T
 use Rattle.session.proofs.Turned.Laws as T′
-use Rattle.fills.proofs.Flat.{RS, mach-of, A-216, L-216, ptr-of, RF, AR, zeros, typed-0, typed-of, xr, slice-of, StoreAll, lends-flat, flat-back, shares-flat, flat-whole, told-three, told-one, stores}
+use Rattle.fills.proofs.Flat.{RS, mach-of, A-216, L-216, ptr-of, RF, AR, typed-blank, typed-of, xr, slice-of, StoreAll, lends-flat, flat-back, shares-flat, flat-whole, told-three, told-one, stores}
 use Rattle.fills.proofs.Several.{says-two, says-three}
 use Rattle.session.proofs.turn.turn_core as turn-core
 use Rattle.session.proofs.turn.turn_core.Symbol as turn-core-def
@@ -134,13 +134,13 @@ module _ {M : Type 1} (𝓤 : URA M) (H : Heap 𝓤) (A : Atoms 𝓤) (W : Given
 
   -- what `turn_core` ensures, and what `turn` does
   abbrev Exact : Turned → Each → List ℕ → Type 0
-  Exact t w rs = turnDone t (after w) (x₅ .now) rs ≡ turnOf (marketOf h before (x₅ .now)) (length ys) zeros
+  Exact t w rs = turnDone t (after w) (x₅ .now) rs ≡ turnOf (marketOf h before (x₅ .now)) (length ys) blank
 
   abbrev StaysSound : Turned → Each → Type 0
   StaysSound t w = Sound (marketOf (t .session) (after w) (x₅ .now))
 
   abbrev Values : Turned → Type 0
-  Values t = printed (t .answer) ≡ printed (turnOf (marketOf h before (x₅ .now)) (length ys) zeros .answer)
+  Values t = printed (t .answer) ≡ printed (turnOf (marketOf h before (x₅ .now)) (length ys) blank .answer)
 
   abbrev Told : Turned → Each → List Fill → Type 0
   Told t w zs = turnStored t (after w) (x₅ .now) zs ≡ turnWith (marketOf h before (x₅ .now)) ys
@@ -149,7 +149,7 @@ module _ {M : Type 1} (𝓤 : URA M) (H : Heap 𝓤) (A : Atoms 𝓤) (W : Given
   stored-so : (t : Turned) (w : Each) (rs : List ℕ) (n : ℕ) → Exact t w rs → n ≡ fillsIn (t .answer) → Fits n ys × Told t w (stored rs n ys)
   stored-so t w rs n e k =
       let m = marketOf h before (x₅ .now) in
-      all-told fillsIn ys (turnDone t (after w) (x₅ .now) rs) (turnOf m (length ys) zeros) n (turn-few m (length ys) zeros) (turn-within m (length ys) zeros refl) e k
+      all-told fillsIn ys (turnDone t (after w) (x₅ .now) rs) (turnOf m (length ys) blank) n (turn-few m (length ys) blank) (turn-within m (length ys) blank refl) e k
 
   abbrev Post : Val → SProp 𝓤
   Post = walkOf 𝓤 H A this.ended stayed (this.clauses 𝓤 H A at-mem run) .post (((κ₀, (κ₁, (κ₂, (κ₃, (κ₄, (κ₅, (κ₆, tt))))))), (q₀, (q₁, (q₂, (q₃, (q₄, (q₅, (q₆, tt))))))), tt, a, vals), tt)
@@ -178,14 +178,14 @@ module _ {M : Type 1} (𝓤 : URA M) (H : Heap 𝓤) (A : Atoms 𝓤) (W : Given
 
   -- what each callee's triple binds outside, and that the caller has what it asks
   abbrev arg-core : ℕ → GName → Session × (RefT (List ℕ) × (RefT (List ℕ) × (RefT (List ℕ) × (RefT (List ℕ) × (RefT (List ℕ) × (RefT (List ℕ) × (ℕ × (RefT (List ℕ) × (Unit {0})))))))))
-  arg-core l δ = (h, (x₀, (x₁, (x₂, (x₃, (x₄, (x₅, (length ys, (xr l δ zeros, tt)))))))))
+  arg-core l δ = (h, (x₀, (x₁, (x₂, (x₃, (x₄, (x₅, (length ys, (xr l δ blank, tt)))))))))
 
   abbrev to-core : ℕ → ℕ → GName → Core 𝓤 H A at-mem run .Ghost
   to-core ν l δ = (((κ₀, (κ₁, (κ₂, (κ₃, (κ₄, (κ₅, (ν ∷ [], tt))))))), (q₀, (q₁, (q₂, (q₃, (q₄, (q₅, (fullShare, tt))))))), tt, arg-core l δ, (mach-of h ∷ [], (ptr-of x₀ ∷ [], (ptr-of x₁ ∷ [], (ptr-of x₂ ∷ [], (ptr-of x₃ ∷ [], (ptr-of x₄ ∷ [], (ptr-of x₅ ∷ [], (vint w64 (length ys) ∷ [], (vptr l 0 ∷ [], tt)))))))))), tt)
 
-  goes-core : (ν l : ℕ) (δ : GName) → ent 𝓤 (sep 𝓤 (sem 𝓤 H A Lent) (sep 𝓤 (A .lft (ν ∷ []) fullShare) (sem 𝓤 H A (MutRef (named 6) (ν ∷ []) AR .own (xr l δ zeros) (vptr l 0 ∷ []))))) (Core 𝓤 H A at-mem run .pre (to-core ν l δ))
+  goes-core : (ν l : ℕ) (δ : GName) → ent 𝓤 (sep 𝓤 (sem 𝓤 H A Lent) (sep 𝓤 (A .lft (ν ∷ []) fullShare) (sem 𝓤 H A (MutRef (named 6) (ν ∷ []) AR .own (xr l δ blank) (vptr l 0 ∷ []))))) (Core 𝓤 H A at-mem run .pre (to-core ν l δ))
   goes-core ν l δ =
-      qed W (‵ Lent ∷ ‵ (flft (ν ∷ []) fullShare) ∷ ‵ (MutRef (named 6) (ν ∷ []) AR .own (xr l δ zeros) (vptr l 0 ∷ [])) ∷ []) ∵ says-two ! ok (length-replicate {A = ℕ} 864 0) $
+      qed W (‵ Lent ∷ ‵ (flft (ν ∷ []) fullShare) ∷ ‵ (MutRef (named 6) (ν ∷ []) AR .own (xr l δ blank) (vptr l 0 ∷ [])) ∷ []) ∵ says-two ! ok (length-replicate {A = ℕ} 864 unwritten) $
       fsplit ! $ move ! (1 ∷ []) $ fsplit ! $ move ! (1 ∷ []) $ fsplit ! $ move ! (1 ∷ []) $ fsplit ! $ move ! (1 ∷ []) $ fsplit ! $ move ! (1 ∷ []) $ fsplit ! $ move ! (1 ∷ []) $ fsplit ! $ move ! (1 ∷ []) $ fsplit ! $ move ! (1 ∷ []) $ fsplit ! $ move ! (1 ∷ []) $ fsplit ! $ move ! (1 ∷ []) $ fsplit ! $ nothing ! $ nothing ! $ owned ! usize (Is usize) (uint-makes 𝓤 H A W w64) (length ys) _ (refl, room .0) $ owned ! RS (Is RS) (LL.makes S.the-type S′.the-plain 𝓤 H A) h _ is-h $
       -- [session; room; true′; true; numbers; entries; owners; sizes; prices; sides; token of entries; token of
       -- numbers; token of owners; token of sizes; token of prices; token of sides; ν's token; flat]
@@ -233,7 +233,7 @@ module _ {M : Type 1} (𝓤 : URA M) (H : Heap 𝓤) (A : Atoms 𝓤) (W : Given
         alloc1 ! (λ l₀. alloc1 ! (λ l₁. alloc1 ! (λ l₂. alloc1 ! (λ l₃. alloc1 ! (λ l₄. alloc1 ! (λ l₅. alloc1 ! (λ l₆. alloc1 ! (λ l₇. alloc1 ! (λ l₈. alloc1 ! (λ l₉. alloc1 ! (λ l₁₀. alloc1 ! (λ l₁₁. alloc1 ! (λ l₁₂. alloc1 ! (λ l₁₃. alloc1 ! (λ l₁₄. alloc1 ! (λ l₁₅. alloc1 ! (λ l₁₆. alloc1 ! (λ l₁₇. alloc1 ! (λ l₁₈. alloc1 ! (λ l₁₉. alloc1 ! (λ l₂₀. alloc1 ! (λ l₂₁. alloc1 ! (λ l₂₂. alloc0 ! $ params1 ! $
         pass1 ! (init ! 42 refl (typed-of 𝓤 H A W h is-h)) $ pass1 ! (init ! 40 refl (tt, tt)) $ pass1 ! (init ! 38 refl (tt, tt)) $ pass1 ! (init ! 36 refl (tt, tt)) $ pass1 ! (init ! 34 refl (tt, tt)) $ pass1 ! (init ! 32 refl (tt, tt)) $ pass1 ! (init ! 30 refl (tt, tt)) $ pass1 ! (init ! 28 refl (tt, (tt, (record { fits = room .0 }, tt)))) $ pass0 ! $
         -- [_22; …; and so on down to the room for _0; …; the columns; the row's token; what the row owns]
-        assigns ! (rep ! 864 (lit ! tt)) (from ! (stop !)) (init ! 26 refl (typed-0 𝓤 H A W)) $
+        assigns ! (rep ! 864 (lit ! tt)) (from ! (stop !)) (init ! 26 refl (typed-blank 𝓤 H A W)) $
         assigns ! (addr ! (from ! (hop ! (look ! 40 refl) (stop !)))) (from ! (stop !)) (init ! 20 refl (tt, tt)) $
         assigns ! (addr ! (from ! (hop ! (look ! 38 refl) (stop !)))) (from ! (stop !)) (init ! 18 refl (tt, tt)) $
         assigns ! (addr ! (from ! (hop ! (look ! 36 refl) (stop !)))) (from ! (stop !)) (init ! 16 refl (tt, tt)) $
