@@ -1,8 +1,7 @@
--- Settings once accepted stay so, no market is open without them, and their allocation is 1 or 2.
+-- No market is open without accepted settings, and their allocation is 1 or 2.
 use mathlib.Core.Path.{_≡_, refl, sym, ap, _∙_}
 use mathlib.Core.Logic.{_⊎_, ⊎-map}
 use mathlib.Core.Bool.{true, false≢true}
-use mathlib.Core.List.{List}
 use borrow.Author.Tests.{eqb-true}
 use Rattle.units.specs.Tests.{_and_, and-true, or-true}
 use Rattle.entry.specs.declared.Settings.{Settings}
@@ -10,26 +9,10 @@ use Rattle.entry.specs.Numbers.{oneOrTwo}
 use Rattle.entry.specs.Settings.{seriesInRange, protectionsInRange, inRange}
 use Rattle.session.specs.declared.Session.{Session}
 use Rattle.session.specs.Market.{Market}
-use Rattle.demands.specs.Runs.{Call, after, Reached}
-use Rattle.demands.specs.RunLaws.{run-keeps, reached-has}
+use Rattle.demands.specs.Runs.{Reached}
+use Rattle.demands.specs.RunLaws.{reached-has}
 use Rattle.demands.specs.Shape.{Keeps, step-has}
 use Rattle.demands.specs.Class.{HasClass, AlwaysOneClass}
-
-abbrev IsSet : Market → Type 0
-IsSet m = m .session .accepted ≡ true
-
-set-keeps : (m : Market) → IsSet m → Keeps IsSet m
-set-keeps m set = record {
-  refused = set;
-  reset = λ given g _. refl;
-  quoted = λ bid offer. set;
-  joins = λ tenant count ns. set;
-  takes = λ was t d _ left. left .accepted ∙ set;
-  opens = λ b ts _ p q. set;
-}
-
-pub stays-set : (m : Market) (cs : List Call) → m .session .accepted ≡ true → after m cs .session .accepted ≡ true
-stays-set = run-keeps IsSet (λ m c set. step-has IsSet m (set-keeps m set) c)
 
 abbrev OpenIfSet : Market → Type 0
 OpenIfSet m = m .session .opened ≡ true → m .session .accepted ≡ true

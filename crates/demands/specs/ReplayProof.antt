@@ -1,14 +1,12 @@
 -- Replay's step is the run's step, by the definitions; and what an opening prints as gone are the cancelled orders, since
 -- what is told from the books before and after is what the opening cancels (`gone-is-cancelled`), listed whole and rising.
 use mathlib.Core.Path.{_≡_, refl, sym, ap, _∙_, subst}
-use mathlib.Core.Logic.{_↔_, _⊎_, Iff·trans, ⊎-elim}
-use mathlib.Core.Bool.{Bool, true, false, _&&_, _||_}
+use mathlib.Core.Logic.{_↔_, _⊎_, ⊎-elim}
+use mathlib.Core.Bool.{Bool, true, false, _&&_}
 use mathlib.Core.List.{List, [], _∷_, _++_, append-nil}
 use Prim.Native.Nat.{ℕ, zero, suc, _≤_, _<_}
 use native.Mathlib.Omega.{arith}
-use lib.Dec.{ltb}
 use lib.ListN.{length}
-use Rattle.units.specs.declared.Cents.{Cents}
 use Rattle.units.specs.Tests.{holds-not-fails}
 use Rattle.units.specs.Says.{less-says, &&-says}
 use Rattle.units.specs.Picked.{keep}
@@ -19,7 +17,7 @@ use Rattle.book.specs.declared.Fill.{Fill}
 use Rattle.book.specs.Fills.{stored}
 use Rattle.book.specs.Sound.{SoundBook}
 use Rattle.book.specs.SoundLaws.{row-of}
-use Rattle.opening.specs.Opening.{matched, afterFills, afterOpening, openingRecords, openingWritten, gone as cancelled}
+use Rattle.opening.specs.Opening.{afterOpening, openingRecords, openingWritten, gone as cancelled}
 use Rattle.opening.specs.OpeningLaws.{left-is}
 use Rattle.lines.specs.Lines.{openLine}
 use Rattle.lines.specs.Gone.{goneOf}
@@ -30,15 +28,15 @@ use Rattle.tape.specs.declared.Event.the-variants as event
 use Rattle.tape.specs.Whole.{Sent, readAll}
 use Rattle.session.specs.Market.{Market}
 use Rattle.session.specs.Sound.{Sound}
-use Rattle.session.specs.Open.{OpenDone, Line, refusedBy, openedAt, printed, fillsIn, openRefusal, openQuiet, openAt, openOf}
-use Rattle.fills.specs.Calls.{blank, emptyRow, openWith}
+use Rattle.session.specs.Open.{OpenDone, Line, refusedBy, openedAt, printed, fillsIn, openRefusal, openQuiet, openAt}
+use Rattle.fills.specs.Calls.{blank, emptyRow}
 use Rattle.replay.specs.Listing.{fillLines, rising, goneEach, goneLines, openLineOf, openLines}
 use Rattle.replay.specs.RisingLaws.{Listed, InColumn, Rising, none, next, rises, all-listed}
 use Rattle.replay.specs.Replay.{settingsPrinted, awayPrinted, submitPrinted, turnPrinted, openPrinted as openEvent, eventPrinted}
 use Rattle.replay.specs.Output.{linesOf, lastLine, printedOn, newMarket, outputOf}
 use Rattle.demands.specs.Runs.{step}
 use Rattle.demands.specs.OpenCases.{Outcome, refused, quiet, opens, open-set, outcome}
-use Rattle.demands.specs.Demand2.{openPrinted, openFills, onceFilled, Cancelled}
+use Rattle.demands.specs.Demand2.{openPrinted, onceFilled, Cancelled}
 use Rattle.demands.specs.Demand2Opening.{goes-says}
 use Rattle.demands.specs.Replay.{callOf, callLines, callsOf, runLines, Rises, GoneTold, ReplayRight}
 

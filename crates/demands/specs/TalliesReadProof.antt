@@ -1,6 +1,5 @@
 -- A tally as it is read: the reading answers what stands, and what stands are the sums of `Tallies`.
 use mathlib.Core.Path.{_≡_, sym, ap, _∙_}
-use mathlib.Core.Logic.{_↔_}
 use mathlib.Core.List.{List}
 use Prim.Native.Nat.{ℕ, _≤_, _<_}
 use native.Mathlib.Omega.{arith}

@@ -20,7 +20,7 @@ use Rattle.tape.specs.Whole.{readFrom}
 use Rattle.session.specs.Market.{Market}
 use Rattle.replay.specs.Listing.{longestEvent}
 use Rattle.replay.specs.Stepping.{going, Step, stepBy, stepOf}
-use Rattle.replay.specs.Output.{printedOn, outputOf, newMarket}
+use Rattle.replay.specs.Output.{printedOn, outputOf}
 use Rattle.replay.specs.OutputLaws.{window-step}
 use Rattle.window.specs.Window.{isShort}
 use Rattle.window.specs.WindowLaws.{enough, short-goes-on}
