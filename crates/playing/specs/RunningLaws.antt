@@ -6,7 +6,7 @@ use mathlib.Core.List.{List, [], _∷_, _++_, append-assoc, append-nil, flatten}
 use Prim.Native.Nat.{ℕ, zero, suc, _+_, _-_, _*_, _≤_, _<_}
 use native.Mathlib.Omega.{arith}
 use borrow.Author.Tests.{eq-eqb, eqb-false, lt-ltb}
-use lib.Dec.{ltb, eqb}
+use lib.Dec.{ltb}
 use lib.ListN.{length, take, drop, length-append, length-drop, length-replicate, take-append-drop}
 use lib.Seq.{length-take-le}
 use Rattle.lines.specs.Laying.{output}
@@ -20,7 +20,7 @@ use Rattle.tape.specs.Whole.{readFrom}
 use Rattle.session.specs.Market.{Market}
 use Rattle.replay.specs.Listing.{longestEvent}
 use Rattle.replay.specs.Stepping.{going, Step, stepBy, stepOf}
-use Rattle.replay.specs.Output.{printedOn, outputOf, newMarket}
+use Rattle.replay.specs.Output.{printedOn, outputOf}
 use Rattle.replay.specs.OutputLaws.{window-step}
 use Rattle.window.specs.Window.{isShort}
 use Rattle.window.specs.WindowLaws.{enough, short-goes-on}
