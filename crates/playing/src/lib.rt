@@ -14,7 +14,7 @@ ghost use Rattle.session.specs.Market.{marketLent, marketFound, marketLeft};
 ghost use Rattle.playing.specs.Playing.{leaving, playOf, CanPlay, PlaysTo};
 
 // What comes next: more of the tape is read, what is printed is written out, or nothing, since the tape ended or was
-// refused, which is told by a letter.
+// refused, with the byte that tells which.
 pub enum Next {
     Read,
     Write,
@@ -40,9 +40,9 @@ fn leave(s: Session, at: usize, from: usize, next: Next) -> Played
     }
 }
 
-// Runs and prints the events from the place `from` of the tape's bytes that are at hand on, of which the first stands at
-// the place `base` of the tape, until too few are at hand although the tape may go on, the output has no room for
-// another, or the tape's last line is printed.
+// Runs and prints the events from the place `from` on of the tape's bytes at hand, of which the first stands at the
+// place `base` of the tape: until too few are at hand although the tape may go on, or the output has no room for the
+// longest event, or the tape's last line is printed.
 pub fn play(
     s: Session,
     bytes: &[u8],

@@ -31,8 +31,8 @@ infixr 20 _before_
 abbrev pub _before_ : Sent → Whole → Whole
 x before w = record { events = x ∷ w .events; ending = w .ending }
 
--- by what is read at a place: an event goes before what the tape holds from its end on; a refusal is the tape's end, and
--- the unfinished event is none of its events
+-- by what is read at a place: an event comes before what the tape holds from its end on; a refused tape stops, and the
+-- unfinished event is none of its events
 abbrev pub readBy : List ℕ → (ℕ → Whole) → Reading → Whole
 readBy numbers from (Read e end) = record { event = e; numbers = numbers } before from end
 readBy numbers from (Refused code place) = nothingBut (refused code place)

@@ -1,5 +1,5 @@
--- `playing::play` meets its contract: what the loop has printed stands in the output, and what is left to be played is a
--- play. The measure is what is left of the bytes at hand.
+-- `playing::play` meets its contract: what the loop has printed stands in the output, and what is left is a play of its
+-- own. The measure is what is left of the bytes at hand.
 use mathlib.Core.Path.{_∙_}
 use Prim.Native.Nat.{_-_}
 use lib.ListN.{length}
