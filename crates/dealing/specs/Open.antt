@@ -53,8 +53,8 @@ abbrev pub unset : Bool → Case
 unset accepted = 21 when isNot accepted
 
 module _ (accepted : Bool) (s : Series) (b : Book) (lent : ℕ) where
-  -- the numbers in the order of checking: 21 no accepted settings yet, 9 already open, 6 fewer than 216 fill records lent,
-  -- 20 no valid opening price, given in no other case than that some resting buy is at or above a resting sell
+  -- the numbers in the order of checking: 21 no accepted settings yet, 9 already open, 6 fewer than 216 fill records
+  -- lent, 20 no valid opening price, given in no other case than that some resting buy is at or above a resting sell
   abbrev pub wayCases : List Case
   wayCases =
       unset accepted

@@ -1,5 +1,5 @@
--- In every reached market with accepted settings allocation is 1 time or 2 proportional, so that every order that trades
--- does so by the one rule or the other.
+-- In every reached market with accepted settings allocation is 1 time or 2 proportional, so that every order that
+-- trades does so by the one rule or the other.
 use mathlib.Core.Path.{_≡_}
 use mathlib.Core.Logic.{_⊎_}
 use mathlib.Core.Bool.{true}

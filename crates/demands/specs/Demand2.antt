@@ -274,8 +274,8 @@ pub record FilledRight (m : Market) (t : ℕ) (filled : ℕ) : Type 0 where
   pub lesser : filled ≡ min (judged m t .size .0) (sumTo (opensAt m t) (m .book .places))
   -- contracts bought equal contracts sold: the rows together trade what is filled
   pub in-all : sumTo (trades m t) (m .book .places) ≡ filled
-  -- a row may be traded exactly if it rests on the opposite side at a price within the bound, and then all that rests of
-  -- it
+  -- a row may be traded exactly if it rests on the opposite side at a price within the bound, and then all that rests
+  -- of it
   pub may-trade : (i : ℕ) → i < m .book .places → (0 < opensAt m t i) ↔ MayTrade m t i
   pub all-open : (i : ℕ) → 0 < opensAt m t i → opensAt m t i ≡ sizeAt (m .book) i
   -- no row trades more than may be traded of it, and only opposite ones do

@@ -81,7 +81,8 @@ pub record Instances : Type 0 where
       (rowIn (onceOpen .book) 1 ≡ 1 ∷ 105 ∷ 5 ∷ [])
       × (rowIn (onceOpen .book) 3 ≡ 2 ∷ 108 ∷ 3 ∷ [])
       × (priceAt (onceOpen .book) 1 < priceAt (onceOpen .book) 3)
-  -- Demand 3. Entries wait in all nine lanes, and of ten turns tenant 4, which always has one waiting, gets one at least.
+  -- Demand 3. Entries wait in all nine lanes, and of ten turns tenant 4, which always has one waiting, gets one at
+  -- least.
   pub fair : (turnsTaken (answers busy tenTurns) ≡ 10) × (1 ≤ turnsOf 4 (answers busy tenTurns)) × Fair 4 (answers busy tenTurns)
   -- Tallies. By the history of the worked example tenant 2 took one turn and bought 3, and tenant 7 sold 3;
   pub tallies :

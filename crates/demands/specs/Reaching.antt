@@ -46,7 +46,8 @@ use Rattle.demands.specs.Demand3.{turnsTaken, NoReset, WaitsBeforeEach}
 
 -- ---- before the opening of E11
 
--- 105 the last print; buys 110×5 and 105×5 of tenants 0 and 1, sells 104×4 and 108×3 of tenants 2 and 3; a turn for each
+-- 105 the last print; buys 110×5 and 105×5 of tenants 0 and 1, sells 104×4 and 108×3 of tenants 2 and 3; a turn for
+-- each
 abbrev pub ordering : List Call
 ordering =
     settings (printing 105)

@@ -1,5 +1,5 @@
--- A tape's events are calls of a run: what an event makes of the market is what the run's step makes, and what it prints
--- are the lines of that step's answer. The proofs stand in ReplayProof.
+-- A tape's events are calls of a run: what an event makes of the market is what the run's step makes, and what it
+-- prints are the lines of that step's answer. The proofs stand in ReplayProof.
 use mathlib.Core.Path.{_≡_}
 use mathlib.Core.Logic.{_↔_, _⊎_}
 use mathlib.Core.Bool.{true, false}

@@ -1,5 +1,6 @@
--- Replay's step is the run's step, by the definitions; and what an opening prints as gone are the cancelled orders, since
--- what is told from the books before and after is what the opening cancels (`gone-is-cancelled`), listed whole and rising.
+-- Replay's step is the run's step, by the definitions; and what an opening prints as gone are the cancelled orders,
+-- since what is told from the books before and after is what the opening cancels (`gone-is-cancelled`), listed whole
+-- and rising.
 use mathlib.Core.Path.{_≡_, refl, sym, ap, _∙_, subst}
 use mathlib.Core.Logic.{_↔_, _⊎_, ⊎-elim}
 use mathlib.Core.Bool.{Bool, true, false, _&&_}

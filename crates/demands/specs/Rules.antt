@@ -71,10 +71,10 @@ module _ (m : Market) (t : ℕ) where
   abbrev pub TwentyFourRest : Type 0
   TwentyFourRest = (k : ℕ) × HowMany (OwnRow (m .book) t) (m .book .places) k × (24 ≤ k)
 
-  -- 10 not open and kind is market or life is now; 11 limit off the grid; 12 buy limit for a put at or above the strike;
-  -- 13 market buy, no offer; 14 market sell, no bid, offer above 50; 15 market, with both sides present: w > least and
-  -- (w > greatest or 200·w > x·(NBB + NBO)); 16 far price, once open; 17 tenant already has 24 resting and the order
-  -- might rest (day, and limit or converted); 19 numbers used up
+  -- 10 not open and kind is market or life is now; 11 limit off the grid; 12 buy limit for a put at or above the
+  -- strike; 13 market buy, no offer; 14 market sell, no bid, offer above 50; 15 market, with both sides present: w >
+  -- least and (w > greatest or 200·w > x·(NBB + NBO)); 16 far price, once open; 17 tenant already has 24 resting and
+  -- the order might rest (day, and limit or converted); 19 numbers used up
   abbrev pub turnDownRules : List Rule
   turnDownRules =
       (10 if ((m .session .opened ≡ false) × ((e .kind ≡ 2) ⊎ (e .life ≡ 2))))
@@ -100,8 +100,8 @@ module _ (m : Market) (t : ℕ) where
       ((judged .side ≡ 1) × (0 < away .offer .0) × (away .offer .0 ≤ judged .price .0))
       ⊎ ((judged .side ≡ 2) × (0 < away .bid .0) × (judged .price .0 ≤ away .bid .0))
 
-  -- Disposition, with so much of the order left: 0 filled; 2 market or now; 3 limit beyond the drill price; 4 limit at or
-  -- beyond the away opposite quote
+  -- Disposition, with so much of the order left: 0 filled; 2 market or now; 3 limit beyond the drill price; 4 limit at
+  -- or beyond the away opposite quote
   abbrev pub dispositionRules : ℕ → List Rule
   dispositionRules left =
       (0 if left ≡ 0)

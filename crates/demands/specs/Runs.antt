@@ -80,11 +80,6 @@ abbrev pub answers : Market → List Call → List Answer
 answers m [] = []
 answers m (c ∷ cs) = step m c .answer ∷ answers (step m c .market) cs
 
--- the fill records that each of them leaves
-abbrev pub recordsLeft : Market → List Call → List (List ℕ)
-recordsLeft m [] = []
-recordsLeft m (c ∷ cs) = step m c .records ∷ recordsLeft (step m c .market) cs
-
 -- the answer is a refusal: a number above 0 alone
 abbrev pub isRefused : Answer → Bool
 isRefused (coded code) = ltb 0 code

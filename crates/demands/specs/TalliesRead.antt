@@ -1,6 +1,6 @@
--- Tallies can be read: after any run, the reading of a tenant's tally answers turns taken, contracts bought and contracts
--- sold as sums over the history since the last accepted settings, and the nine lines print them. It alters nothing, and
--- is refused, by 1, for a tenant above 8 alone.
+-- Tallies can be read: after any run, the reading of a tenant's tally answers turns taken, contracts bought and
+-- contracts sold as sums over the history since the last accepted settings, and the nine lines print them. It alters
+-- nothing, and is refused, by 1, for a tenant above 8 alone.
 use mathlib.Core.Path.{_≡_}
 use mathlib.Core.Logic.{_↔_}
 use mathlib.Core.List.{List}

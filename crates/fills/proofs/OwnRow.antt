@@ -1,6 +1,7 @@
--- What `turn_on_row` and `open_on_row` have in common: the row of fills is a local, which `no_fills` empties; it is lent
--- to the call as a slice for a lifetime that the walk makes, and taken back with what the call left there. The steps are
--- rules of `types.Kit`: each takes the entries that it is about at the head of any context. Assumes nothing but `Given`.
+-- What `turn_on_row` and `open_on_row` have in common: the row of fills is a local, which `no_fills` empties; it is
+-- lent to the call as a slice for a lifetime that the walk makes, and taken back with what the call left there. The
+-- steps are rules of `types.Kit`: each takes the entries that it is about at the head of any context. Assumes nothing
+-- but `Given`.
 use mathlib.Core.Path.{_≡_, refl, sym, subst}
 use Prim.Native.Nat.{ℕ}
 use mathlib.Core.List.{[], _∷_, List}

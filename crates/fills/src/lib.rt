@@ -27,8 +27,8 @@ ghost use Rattle.session.specs.Turn.{printed, fillsIn};
 ghost use Rattle.session.specs.Open.{printed as printedOpen, fillsIn as fillsOpened};
 ghost use Rattle.fills.specs.Calls.{turnStored, turnWith, openStored, openWith};
 
-// What the flat records begin with. Any number does, since only what is written is stored; with 0 the compiler would have
-// them cleared byte by byte at each call.
+// What the flat records begin with. Any number does, since only what is written is stored; with 0 the compiler would
+// have them cleared byte by byte at each call.
 const UNWRITTEN: u32 = 1;
 
 // The fill whose four numbers stand at place i of the flat records.

@@ -29,7 +29,8 @@ longestNumber = 11
 abbrev pub longestPlace : ℕ
 longestPlace = 21
 
--- no line of a tally is longer: `tally`, a number of ten digits and three of twenty, each after a space, and the newline
+-- no line of a tally is longer: `tally`, a number of ten digits and three of twenty, each after a space, and the
+-- newline
 abbrev pub longestTally : ℕ
 longestTally = 80
 

@@ -1,5 +1,5 @@
-// The worked example of the paper, call by call, each turn and the open with a row of fills of its own; the fills of both
-// turns are printed.
+// The worked example of the paper, call by call, each turn and the open with a row of fills of its own; the fills of
+// both turns are printed.
 use book::Fill;
 use entry::Settings;
 use fills::on_row::TurnedRow;

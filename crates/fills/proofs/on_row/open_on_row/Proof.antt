@@ -1,7 +1,7 @@
 -- `fills::on_row::open_on_row` meets its contract: a walk of its MIR, by hand. The row is a local, which `no_fills`
 -- empties; it is lent to `open` as a slice for a lifetime that the walk makes, and taken back with what `open` left
--- there. The columns are passed on for good, as `open` itself passes them on. The steps that both walks of a row of one's
--- own take stand in OwnRow. Assumes nothing.
+-- there. The columns are passed on for good, as `open` itself passes them on. The steps that both walks of a row of
+-- one's own take stand in OwnRow. Assumes nothing.
 use mathlib.Core.Path.{_≡_, refl, sym, subst}
 use Prim.Native.Nat.{ℕ}
 use mathlib.Core.List.{[], _∷_, List}
@@ -148,8 +148,8 @@ module _ {M : Type 1} (𝓤 : URA M) (H : Heap 𝓤) (A : Atoms 𝓤) (W : Given
   enters =
       qed W (‵ (fsep (flft κ₀ q₀) (fsep (flft κ₁ q₁) (fsep (flft κ₂ q₂) (fsep (flft κ₃ q₃) (fsep (flft κ₄ q₄) ftrue))))) ∷ ‵ (owns (RS ∷ ShrRef (named 0) κ₀ A-216 ∷ ShrRef (named 1) κ₁ A-216 ∷ MutRef (named 2) κ₂ A-216 ∷ ShrRef (named 3) κ₃ A-216 ∷ ShrRef (named 4) κ₄ A-216 ∷ []) a vals) ∷ []) ∵
       fsplit ! $ move ! (1 ∷ []) $ fsplit ! $ move ! (1 ∷ []) $ fsplit ! $ move ! (1 ∷ []) $ fsplit ! $ move ! (1 ∷ []) $ fsplit ! $ move ! (6 ∷ []) $ fsplit ! $ move ! (1 ∷ []) $ fsplit ! $ move ! (1 ∷ []) $ fsplit ! $ move ! (1 ∷ []) $ fsplit ! $ move ! (1 ∷ []) $ fsplit ! $ move ! (1 ∷ []) $ fsplit ! $
-      -- [numbers; true′; owners; sizes; prices; sides; session; token of numbers; true; token of owners; token of sizes;
-      -- token of prices; token of sides]
+      -- [numbers; true′; owners; sizes; prices; sides; session; token of numbers; true; token of owners; token of
+      -- sizes; token of prices; token of sides]
       keep ! (12 ∷ 11 ∷ 10 ∷ 9 ∷ 7 ∷ 5 ∷ 4 ∷ 3 ∷ 2 ∷ 0 ∷ []) $ group ! 10 $ done !
 
   abbrev Tokens : Lft → Share → Fml
@@ -209,8 +209,8 @@ module _ {M : Type 1} (𝓤 : URA M) (H : Heap 𝓤) (A : Atoms 𝓤) (W : Given
       qed W (‵ (Left w) ∷ ‵ (RB .own r (v ∷ [])) ∷ []) ∵
       suffices ! _ (ends-at 𝓤 H A this.ended stayed (this.clauses 𝓤 H A at-mem run) W (((κ₀, (κ₁, (κ₂, (κ₃, (κ₄, tt))))), (q₀, (q₁, (q₂, (q₃, (q₄, tt))))), tt, a, vals), tt) v r (tt, (tt, (tt, (w .0, (tt, (tt, tt)))))) (tt, (tt, (tt, (tt, (tt, (tt, tt))))))) $ says-three ! e e′ n $
       fsplit ! $ move ! (1 ∷ []) $ fsplit ! $ move ! (1 ∷ []) $ fsplit ! $ move ! (1 ∷ []) $ fsplit ! $ move ! (1 ∷ []) $ fsplit ! $ nothing ! $ nothing ! $ nothing ! $ nothing ! $ nothing ! $ nothing ! $ nothing ! $
-      -- [true6; true5; true4; true3; true2; true1; true0; token of numbers; sizes; token of owners; token of sizes; token
-      -- of prices; token of sides; result]
+      -- [true6; true5; true4; true3; true2; true1; true0; token of numbers; sizes; token of owners; token of sizes;
+      -- token of prices; token of sides; result]
       move ! (12 ∷ 11 ∷ 10 ∷ 9 ∷ 7 ∷ 6 ∷ 5 ∷ 4 ∷ 3 ∷ 8 ∷ 2 ∷ 1 ∷ 0 ∷ 13 ∷ []) $ group ! 6 $ frame ! $ group ! 7 $ done !
 
   module _ (C : Calls 𝓤 H) (Λ : Loops 𝓤 H) (fm : FmC 𝓤 H (W .laws) C) (known-empty : Triple 𝓤 (C #no-fills) (NoFills 𝓤 H A at-mem run)) (known-open : Triple 𝓤 (C #open) (Open 𝓤 H A at-mem run)) (known-beside : Triple 𝓤 (C #opened-row) (Beside 𝓤 H A at-mem run)) where

@@ -1,7 +1,7 @@
 -- `fills::on_row::turn_on_row` meets its contract: a walk of its MIR, by hand. The row is a local, which `no_fills`
 -- empties; it is lent to `turn` as a slice for a lifetime that the walk makes, and taken back with what `turn` left
--- there. The columns are passed on for good, as `turn` itself passes them on. The steps that both walks of a row of one's
--- own take stand in OwnRow. Assumes nothing.
+-- there. The columns are passed on for good, as `turn` itself passes them on. The steps that both walks of a row of
+-- one's own take stand in OwnRow. Assumes nothing.
 use mathlib.Core.Path.{_≡_, refl, sym, subst}
 use Prim.Native.Nat.{ℕ}
 use mathlib.Core.List.{[], _∷_, List}
