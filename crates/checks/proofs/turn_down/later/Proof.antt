@@ -1,72 +1,41 @@
--- `checks::turn_down::later` meets its contract: it leaves by the first test that holds, where those before it fail; the
--- last two are the rest of the rule, word by word.
+-- `checks::turn_down::later` meets its contract: a test that fails leaves the cases after it, and the first that holds
+-- gives its number.
+use mathlib.Core.List.{List}
+use lib.ListN.{drop}
 use Rattle.units.specs.Tests.{pick}
+use Rattle.units.specs.Cases.{Case}
+use Rattle.checks.specs.TurnDown.{turnDowns}
+use Rattle.checks.specs.TurnDownLaws.{Past}
 use Rattle.checks.proofs.turn_down.later.Statement.{statement}
 use Rattle.checks.proofs.turn_down.later.Tie as tie
 
-returns : tie.Need-returns
-unfolding pick
-returns c = rw (← c .before .too-wide .ensures, c .if1 .taken)
+abbrev cases : tie.Start → List Case
+cases s = drop 5 (turnDowns (s .args .e) (s .args .q) (s .args .t) (s .args .s))
 
-returns-2 : tie.Need-returns-2
+past-15 : (c : tie.Else1) → Past 1 (cases (c .before .before))
 unfolding pick
-returns-2 c =
-    let judged = c .before .before in
-    let past-15 = judged .before in
-    rw (
-      ← past-15 .before .too-wide .ensures,
-      past-15 .if1 .left,
-      ← judged .as-judged .ensures,
-      ← c .before .far-price .ensures,
-      c .if2 .taken,
-    )
+past-15 c = rw (← c .before .too-wide .ensures, c .if1 .left)
 
-returns-3 : tie.Need-returns-3
+past-16 : (c : tie.Else2) → Past 2 (cases (c .before .before .before .before .before))
 unfolding pick
-returns-3 c =
-    let past-16 = c .before .before in
-    let judged = past-16 .before .before in
-    let past-15 = judged .before in
-    rw (
-      ← past-15 .before .too-wide .ensures,
-      past-15 .if1 .left,
-      ← judged .as-judged .ensures,
-      ← past-16 .before .far-price .ensures,
-      past-16 .if2 .left,
-      ← c .before .no-room .ensures,
-      c .if3 .taken,
-    )
+past-16 c = rw (past-15 (c .before .before .before), ← c .before .before .as-judged .ensures, ← c .before .far-price .ensures, c .if2 .left)
 
-returns-4 : tie.Need-returns-4
+past-17 : (c : tie.Else3) → Past 3 (cases (c .before .before .before .before .before .before .before))
 unfolding pick
-returns-4 c =
-    let past-17 = c .before .before in
-    let past-16 = past-17 .before .before in
-    let judged = past-16 .before .before in
-    let past-15 = judged .before in
-    rw (
-      ← past-15 .before .too-wide .ensures,
-      past-15 .if1 .left,
-      ← judged .as-judged .ensures,
-      ← past-16 .before .far-price .ensures,
-      past-16 .if2 .left,
-      ← past-17 .before .no-room .ensures,
-      past-17 .if3 .left,
-      ← c .before .used-up .ensures,
-      c .first .ensures,
-    )
+past-17 c = rw (past-16 (c .before .before), ← c .before .before .before .before .as-judged .ensures, ← c .before .no-room .ensures, c .if3 .left)
 
 pub later-spec : {M : Type 1} → statement M
+unfolding pick
 later-spec =
     tie.close
     (tie.spec
     (λ _ _. tt)
-    returns
+    (λ c. rw (← c .before .too-wide .ensures, c .if1 .taken))
     (λ _ _. tt)
     (λ _ _. tt)
-    returns-2
+    (λ c. rw (past-15 (c .before .before .before), ← c .before .before .as-judged .ensures, ← c .before .far-price .ensures, c .if2 .taken))
     (λ _ _. tt)
-    returns-3
+    (λ c. rw (past-16 (c .before .before), ← c .before .before .before .before .as-judged .ensures, ← c .before .no-room .ensures, c .if3 .taken))
     (λ _ _. tt)
     (λ _ _. tt)
-    returns-4)
+    (λ c. rw (past-17 (c .before .before), ← c .before .used-up .ensures, c .first .ensures)))
