@@ -1,9 +1,13 @@
--- Each number is given exactly in its case; and what holds of an order that is not turned down.
+-- Each number is given exactly in its case; what is left where the first tests fail; and what holds of an order that is
+-- not turned down.
 use mathlib.Core.Path.{_≡_, refl}
 use mathlib.Core.Bool.{true, false}
-use Prim.Native.Nat.{_≤_, _<_}
+use mathlib.Core.List.{List}
+use Prim.Native.Nat.{ℕ, _≤_, _<_}
+use lib.ListN.{drop}
 use borrow.Author.Tests.{ltb-false, leb-false}
 use Rattle.units.specs.Tests.{_and_, pick, and-false, or-false, not-fails}
+use Rattle.units.specs.Cases.{Case, firstOf}
 use Rattle.units.specs.CaseLaws.{GivenBy, first-given, all-fail}
 use Rattle.rows.specs.Rows.{rowsATenant, lastNumber}
 use Rattle.entry.specs.declared.Entry.{Entry}
@@ -12,6 +16,10 @@ use Rattle.entry.specs.declared.Terms.{Terms}
 use Rattle.entry.specs.Entry.{isMarket, isNow}
 use Rattle.checks.specs.declared.Standing.{Standing}
 use Rattle.checks.specs.TurnDown.{notYet, unbid, converts, asJudged, mightRest, noRoom, usedUp, turnDowns, turnDown}
+
+-- the cases after the first k decide
+abbrev pub Past : ℕ → List Case → Type 0
+Past k cs = firstOf 0 cs ≡ firstOf 0 (drop k cs)
 
 module _ (e : Entry) (q : Quotes) (t : Terms) (s : Standing) where
   -- each of the nine numbers is given exactly where the tests before its own fail and its own holds; and an order is

@@ -183,25 +183,41 @@ fn used_up(s: Standing) -> bool
     LAST_NUMBER < s.next
 }
 
-// The checks from 15 on; from 16 on they look at the order as judged. Each line goes before those above it.
+// The checks from 15 on; from 16 on they look at the order as judged.
 fn later(e: Entry, q: Quotes, t: Terms, s: Standing) -> u32
     ensures { λ r. ⌜ r ≡ firstOf 0 (drop 5 (turnDowns e q t s)) ⌝ }
 {
+    if too_wide(e, q, t) {
+        return 15;
+    }
     let order = as_judged(e, q, t);
-    let from_19 = first(used_up(s), 19, 0);
-    let from_17 = first(no_room(order, s), 17, from_19);
-    let from_16 = first(far_price(order, q, t, s), 16, from_17);
-    first(too_wide(e, q, t), 15, from_16)
+    if far_price(order, q, t, s) {
+        return 16;
+    }
+    if no_room(order, s) {
+        return 17;
+    }
+    first(used_up(s), 19, 0)
 }
 
-// The number by which a new order is turned down, or 0.
+// The number by which a new order is turned down, or 0: the first test that holds ends the checking.
 pub fn turn_down(e: Entry, q: Quotes, t: Terms, s: Standing) -> u32
     ensures { λ r. ⌜ r ≡ turnDown e q t s ⌝ }
 {
-    let from_15 = later(e, q, t, s);
-    let from_14 = first(no_bid(e, q), 14, from_15);
-    let from_13 = first(no_offer(e, q), 13, from_14);
-    let from_12 = first(at_strike(e, t), 12, from_13);
-    let from_11 = first(off_grid(e, t), 11, from_12);
-    first(not_yet(e, s), 10, from_11)
+    if not_yet(e, s) {
+        return 10;
+    }
+    if off_grid(e, t) {
+        return 11;
+    }
+    if at_strike(e, t) {
+        return 12;
+    }
+    if no_offer(e, q) {
+        return 13;
+    }
+    if no_bid(e, q) {
+        return 14;
+    }
+    later(e, q, t, s)
 }

@@ -65,14 +65,18 @@ impl Grid {
         }
     }
 
-    // Whether the step at the price divides it; a step of 0 divides 0 alone.
+    // Whether the step at the price divides it; a step of 0 divides 0 alone. The steps of the three grids stand apart:
+    // the remainder by a constant takes no division.
     pub fn on(self, price: Cents) -> bool
         ensures { λ r. ⌜ r ≡ onGrid self price ⌝ }
     {
         let by = self.step(price).0;
-        if by == 0 {
-            return price.0 == 0;
+        match by {
+            Grid::CENT => true,
+            Grid::NICKEL => price.0 % Grid::NICKEL == 0,
+            Grid::DIME => price.0 % Grid::DIME == 0,
+            0 => price.0 == 0,
+            _ => price.0 % by == 0,
         }
-        price.0 % by == 0
     }
 }
