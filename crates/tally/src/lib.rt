@@ -34,7 +34,7 @@ pub fn add(t: &mut Tally, turns: u64, bought: u64, sold: u64)
 }
 
 // A tally of one's own is lent, and returned.
-fn added(t: Tally, turns: u64, bought: u64, sold: u64) -> Tally
+pub fn added(t: Tally, turns: u64, bought: u64, sold: u64) -> Tally
     requires { ⌜ fits t turns bought sold ⌝ }
     ensures total { λ r. ⌜ r ≡ plus t turns bought sold ⌝ }
 {
