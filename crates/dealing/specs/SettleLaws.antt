@@ -189,6 +189,7 @@ module _ (tallies : List Tally) (t : ℕ) (e : Entry) (b : Book) (was : List ℕ
   shares-are : shared ≡ table (traded b (opposite e) bound (e .size .0) allocation) rows
   shares-are = rw sided at are
 
+  -- what is answered, by its tallies
   settled-as :
       (all : List Tally) → all ≡ talliesAfter tallies t e b bound allocation →
       _≡_ {A = Settled} (record { tallies = all; filled = done .filled; fills = done .fills }) (settledOf tallies t e b bound allocation)

@@ -37,7 +37,8 @@ pub(crate) fn credit_row(tallies: Tallies, side: u32, owner: u32, quantity: u32)
     after
 }
 
-// Every row's contracts, for its owner; a tally is added to where it stands, and only for a row that traded.
+// Every row's contracts, for its owner. The nine tallies stay here, and one is added to where a row traded: a call that
+// took and returned them all would copy them for each row.
 pub fn credit(tallies: Tallies, sides: &Column, owners: &Column, traded: &Column) -> Tallies
     requires { ⌜ Creditable tallies (at (now sides)) (at (now owners)) (at (now traded)) ⌝ }
     ensures { λ r. ⌜ r ≡ credited tallies (found sides) (found owners) (found traded) ⌝ }

@@ -30,7 +30,7 @@ fn other_side(side: u32) -> u32
 }
 
 // The order trades with opposite rows within its bound; each tenant's tally is added to, the incoming order's and those
-// of the rows that traded. Where nothing is filled, none is looked at.
+// of the rows that traded. An order that fills nothing leaves the tallies as they are, without a pass over the rows.
 pub(crate) fn settle(
     tallies: Tallies,
     allocation: u32,
