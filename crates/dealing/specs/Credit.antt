@@ -9,7 +9,16 @@ use Rattle.units.specs.Picked.{keep, same}
 use Rattle.units.specs.Units.{tenants}
 use Rattle.rows.specs.Rows.{rows}
 use Rattle.tally.specs.declared.Tally.{Tally}
-use Rattle.tally.specs.Tallies.{added, onlyFor, turnsInAll, boughtInAll, soldInAll}
+use Rattle.tally.specs.Tallies.{plus, fits, added, onlyFor, turnsInAll, boughtInAll, soldInAll}
+
+-- a row's contracts in its owner's tally: bought on side 1, else sold
+abbrev pub ownerCredit : Tally → ℕ → ℕ → Tally
+ownerCredit t side quantity = plus t 0 (keep (eqb side 1) quantity) (keep (eqb side 2) quantity)
+
+-- what that rests on: a side, and sums that fit
+pub record CanCreditOwner (t : Tally) (side quantity : ℕ) : Type 0 where
+  pub sided : (1 ≤ side) × (side ≤ 2)
+  pub sums : fits t 0 (keep (eqb side 1) quantity) (keep (eqb side 2) quantity)
 
 -- one row's contracts for its owner: bought on side 1, else sold
 abbrev pub rowCredit : List Tally → ℕ → ℕ → ℕ → List Tally

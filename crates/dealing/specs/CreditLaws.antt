@@ -6,15 +6,15 @@ use native.Mathlib.Decide.{ℕ-discrete}
 use native.Mathlib.Omega.{arith}
 use lib.Dec.{eqb}
 use borrow.Author.Tests.{eq-eqb, ne-eqb}
-use lib.ListN.{length}
+use lib.ListN.{length, set}
 use Rattle.units.specs.Sums.{sumTo, sum-zero, sum-next, sum-grows, sum-none}
 use Rattle.units.specs.Picked.{keep, keep-none, same, sum-by-key-most}
 use Rattle.units.specs.Units.{tenants}
 use Rattle.rows.specs.Rows.{rows}
 use Rattle.tally.specs.declared.Tally.{Tally}
-use Rattle.tally.specs.Tallies.{onlyFor, counted, boughtInAll, soldInAll, Countable}
-use Rattle.tally.specs.TallyLaws.{added-length, added-same, added-none, added-twice, only-none, in-all-added, in-all-has}
-use Rattle.dealing.specs.Credit.{rowCredit, CanCredit, shareTo, creditedTo, credited, Creditable}
+use Rattle.tally.specs.Tallies.{tallyAt, onlyFor, boughtInAll, soldInAll}
+use Rattle.tally.specs.TallyLaws.{added-length, added-same, added-none, added-twice, only-none, counted-is, in-all-added, in-all-has}
+use Rattle.dealing.specs.Credit.{ownerCredit, CanCreditOwner, rowCredit, CanCredit, shareTo, creditedTo, credited, Creditable}
 
 module _ (tallies : List Tally) (side owner quantity : ℕ) where
   -- a row that did not trade
@@ -25,34 +25,24 @@ module _ (tallies : List Tally) (side owner quantity : ℕ) where
       (λ u _. rw (z, keep-none (eqb side 1)) (sym (only-none owner u)))
       (λ u _. rw (z, keep-none (eqb side 2)) (sym (only-none owner u)))
 
-  pub row-bought : side ≡ 1 → counted tallies owner 0 quantity 0 ≡ rowCredit tallies side owner quantity
-  row-bought e = added-same tallies (λ u _. only-none owner u) (λ u _. rw (eq-eqb side 1 e)) (λ u _. rw (ne-eqb side 2 (omega arith)))
-
-  pub row-sold : side ≡ 2 → counted tallies owner 0 0 quantity ≡ rowCredit tallies side owner quantity
-  row-sold e = added-same tallies (λ u _. only-none owner u) (λ u _. rw (ne-eqb side 1 (omega arith))) (λ u _. rw (eq-eqb side 2 e))
-
+  -- a row that traded
   module _ (can : CanCredit tallies side owner quantity) (traded : 0 < quantity) where
-    pub can-buy : side ≡ 1 → Countable tallies owner 0 quantity 0
-    can-buy e = record {
-      long = can .long;
-      tenant = can .tenant traded;
+    pub can-credit-owner : CanCreditOwner (tallyAt tallies owner) side quantity
+    can-credit-owner = record {
+      sided = can .sided traded;
       sums = (
         omega (arith, can .turns, in-all-has (λ x. x .turns) tallies owner (can .tenant traded)),
-        omega (arith, rw (eq-eqb side 1 e) at (can .bought), in-all-has (λ x. x .bought) tallies owner (can .tenant traded)),
+        omega (arith, can .bought, in-all-has (λ x. x .bought) tallies owner (can .tenant traded)),
         omega (arith, can .sold, in-all-has (λ x. x .sold) tallies owner (can .tenant traded)),
       );
     }
 
-    pub can-sell : side ≡ 2 → Countable tallies owner 0 0 quantity
-    can-sell e = record {
-      long = can .long;
-      tenant = can .tenant traded;
-      sums = (
-        omega (arith, can .turns, in-all-has (λ x. x .turns) tallies owner (can .tenant traded)),
-        omega (arith, can .bought, in-all-has (λ x. x .bought) tallies owner (can .tenant traded)),
-        omega (arith, rw (eq-eqb side 2 e) at (can .sold), in-all-has (λ x. x .sold) tallies owner (can .tenant traded)),
-      );
-    }
+    -- its owner's tally is stored anew
+    pub row-traded : (t : Tally) → t ≡ ownerCredit (tallyAt tallies owner) side quantity → set tallies owner t ≡ rowCredit tallies side owner quantity
+    row-traded t e =
+        ap (set tallies owner) e
+        ∙ (counted-is tallies owner 0 _ _ (omega (arith, can .long, can .tenant traded))
+        ∙ added-same tallies (λ u _. only-none owner u) (λ u _. refl) (λ u _. refl))
 
 -- a row's part of a tenant's share, as its credit writes it
 share-term : (side owner quantity : ℕ → ℕ) (s u i : ℕ) → same owner u (same side s quantity) i ≡ onlyFor (owner i) (keep (eqb (side i) s) (quantity i)) u

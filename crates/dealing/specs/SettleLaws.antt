@@ -27,6 +27,7 @@ use Rattle.tally.specs.Tallies.{onlyFor}
 use Rattle.tally.specs.TallyLaws.{added-length, added-same, added-twice, in-all-added, only-none, only-sum}
 use Rattle.dealing.specs.Credit.{rowCredit, CanCredit, shareTo, credited, Creditable}
 use Rattle.dealing.specs.Settle.{opposite, Settles, restingShare, talliesAfter, settledOf}
+use Rattle.dealing.specs.SumLaws.{nothing-moved}
 use Rattle.dealing.specs.declared.settle.Settled.{Settled}
 
 -- where the rows of a side that traded have x, so has each tenant's share of them
@@ -188,6 +189,17 @@ module _ (tallies : List Tally) (t : ℕ) (e : Entry) (b : Book) (was : List ℕ
   shares-are : shared ≡ table (traded b (opposite e) bound (e .size .0) allocation) rows
   shares-are = rw sided at are
 
+  -- what is answered, by its tallies
+  settled-as :
+      (all : List Tally) → all ≡ talliesAfter tallies t e b bound allocation →
+      _≡_ {A = Settled} (record { tallies = all; filled = done .filled; fills = done .fills }) (settledOf tallies t e b bound allocation)
+  unfolding settledOf
+  settled-as all is = λ i. record { tallies = is i; filled = contracts (fills-are .0 i); fills = fills-are .1 i }
+
+  -- nothing was filled
+  pub settled-none : done .filled .0 ≡ 0 → _≡_ {A = Settled} (record { tallies = tallies; filled = done .filled; fills = done .fills }) (settledOf tallies t e b bound allocation)
+  settled-none z = settled-as tallies (nothing-moved tallies (can .long) t (can .tenant) e b (can .next) (can .sound) bound allocation (omega (arith, fills-are .0, z)))
+
   pub own-ready : CanCredit tallies (e .side) t (done .filled .0)
   own-ready = rw (fills-are .0) (can-own tallies t e b was can bound allocation shared shares-are)
 
@@ -198,8 +210,5 @@ module _ (tallies : List Tally) (t : ℕ) (e : Entry) (b : Book) (was : List ℕ
     pub settled-is :
         (all : List Tally) → all ≡ credited own (sideAt b) (ownerAt b) (at shared) →
         _≡_ {A = Settled} (record { tallies = all; filled = done .filled; fills = done .fills }) (settledOf tallies t e b bound allocation)
-    unfolding settledOf
     settled-is all all-is =
-        let ts : all ≡ talliesAfter tallies t e b bound allocation
-        = all-is ∙ (rw (own-is, fills-are .0) (settled-tallies tallies t e b was can bound allocation shared shares-are)) in
-        λ i. record { tallies = ts i; filled = contracts (fills-are .0 i); fills = fills-are .1 i }
+        settled-as all (all-is ∙ (rw (own-is, fills-are .0) (settled-tallies tallies t e b was can bound allocation shared shares-are)))

@@ -1,12 +1,12 @@
 -- The sums of the tallies and of what rests, once an order has traded: what is counted no longer rests.
-use mathlib.Core.Path.{_≡_, refl, _∙_}
+use mathlib.Core.Path.{_≡_, refl, sym, _∙_}
 use mathlib.Core.Bool.{Bool, true, false}
 use mathlib.Core.List.{List}
 use Prim.Native.Nat.{ℕ, _+_, _≤_, _<_}
 use native.Mathlib.Omega.{arith}
 use lib.ListN.{length}
-use Rattle.units.specs.Tests.{pick-yes, pick-no}
-use Rattle.units.specs.Sums.{sumTo, sum-none}
+use Rattle.units.specs.Tests.{pick-yes, pick-no, picked-of-both}
+use Rattle.units.specs.Sums.{sumTo, sum-none, sum-has}
 use Rattle.units.specs.Picked.{sum-by-key-most}
 use Rattle.units.specs.Units.{tenants}
 use Rattle.book.specs.Book.{Book, ownerAt}
@@ -20,7 +20,7 @@ use Rattle.entry.specs.declared.Entry.{Entry}
 use Rattle.entry.specs.Entry.{isBuy}
 use Rattle.tally.specs.declared.Tally.{Tally}
 use Rattle.tally.specs.Tallies.{added, turnsInAll, boughtInAll, soldInAll}
-use Rattle.tally.specs.TallyLaws.{added-length, in-all-added, only-sum}
+use Rattle.tally.specs.TallyLaws.{added-length, added-same, added-none, in-all-added, only-none, only-sum}
 use Rattle.dealing.specs.Settle.{opposite, restingShare, incomingShare, talliesAfter}
 
 -- what tallies come to once one side's contracts and the other's are added
@@ -89,6 +89,21 @@ module _ (tallies : List Tally) (long : length tallies ≡ tenants) (t : ℕ) (t
   after-sell : isBuy e ≡ false → talliesAfter tallies t e b bound allocation ≡ added (λ u. 0) theirs own tallies
   unfolding talliesAfter
   after-sell h = pick-no _ _ h
+
+  -- where nothing is filled, nobody's tally moves
+  module _ (none-filled : f ≡ 0) where
+    own-none : (u : ℕ) → u < length tallies → own u ≡ 0
+    own-none u _ = rw none-filled (only-none t u)
+
+    theirs-none : (u : ℕ) → u < length tallies → theirs u ≡ 0
+    theirs-none u p = omega (arith, sum-has theirs tenants u (omega arith), theirs-sum)
+
+    pub nothing-moved : tallies ≡ talliesAfter tallies t e b bound allocation
+    unfolding talliesAfter
+    nothing-moved = picked-of-both (λ x. tallies ≡ x) (isBuy e) _ _ (stay own-none theirs-none) (stay theirs-none own-none)
+      where
+        stay : {g h : ℕ → ℕ} → ((u : ℕ) → u < length tallies → g u ≡ 0) → ((u : ℕ) → u < length tallies → h u ≡ 0) → tallies ≡ added (λ u. 0) g h tallies
+        stay p q = sym (added-same tallies (λ u _. refl) p q ∙ added-none tallies)
 
   moved-buy : isBuy e ≡ true → Moved tallies (talliesAfter tallies t e b bound allocation) b b₁
   moved-buy h = rw (after-buy h) (record {

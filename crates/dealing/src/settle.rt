@@ -30,7 +30,7 @@ fn other_side(side: u32) -> u32
 }
 
 // The order trades with opposite rows within its bound; each tenant's tally is added to, the incoming order's and those
-// of the rows that traded.
+// of the rows that traded. An order that fills nothing leaves the tallies as they are, without a pass over the rows.
 pub(crate) fn settle(
     tallies: Tallies,
     allocation: u32,
@@ -67,9 +67,16 @@ pub(crate) fn settle(
         &mut shared,
         records,
     );
-    let own = credit_row(tallies, e.side, t as u32, done.filled.0);
-    let all = credit(own, sides, owners, &shared);
     let filled = done.filled;
+    if filled.0 == 0 {
+        return Settled {
+            tallies: tallies,
+            filled: filled,
+            fills: done.fills,
+        };
+    }
+    let own = credit_row(tallies, e.side, t as u32, filled.0);
+    let all = credit(own, sides, owners, &shared);
     Settled {
         tallies: all,
         filled: filled,

@@ -110,6 +110,7 @@ use Rattle.book.proofs.quotes.best_bid.Reads as book-best-bid
 use Rattle.book.proofs.quotes.best_offer.Reads as book-best-offer
 use Rattle.book.proofs.quotes.crosses.Reads as book-crosses
 use Rattle.book.proofs.shares.shares.Reads as book-shares
+use Rattle.tally.proofs.added.Reads as tally-added
 use Rattle.tally.proofs.none.Reads as tally-none
 use Rattle.tally.proofs.count.Reads as tally-count
 use Rattle.tally.proofs.turns_in_all.Reads as tally-turns-in-all
@@ -431,6 +432,9 @@ pub one-opening-open-at : OneOutcome opening-open-at.Post (λ e. matchLent (e .1
 one-opening-open-at κs a z z′ e e′ = matched
 
 -- ---- tally
+
+pub one-tally-added : OneResult tally-added.Post
+one-tally-added κs a z z′ e e′ = same
 
 pub one-tally-none : OneResult tally-none.Post
 one-tally-none κs a z z′ e e′ = same

@@ -33,8 +33,8 @@ pub fn add(t: &mut Tally, turns: u64, bought: u64, sold: u64)
     *t = summed(*t, turns, bought, sold);
 }
 
-// A tally of one's own is lent, and returned.
-fn added(t: Tally, turns: u64, bought: u64, sold: u64) -> Tally
+// A tally of one's own is added to in the same way: it is lent, and returned.
+pub fn added(t: Tally, turns: u64, bought: u64, sold: u64) -> Tally
     requires { ⌜ fits t turns bought sold ⌝ }
     ensures total { λ r. ⌜ r ≡ plus t turns bought sold ⌝ }
 {
