@@ -1,5 +1,5 @@
--- The digits of a number: one division gives one of them; read back they give the number; each is a digit, and the
--- first is 0 for 0 alone.
+-- The digits of a number: one division gives one of them, or two, or four; read back they give the number; each is a
+-- digit, and the first is 0 for 0 alone.
 use mathlib.Core.Path.{_≡_, refl, sym, ap}
 use mathlib.Core.List.{List, [], _∷_, _++_, append-assoc}
 use Prim.Native.Nat.{ℕ, zero, suc, _+_, _-_, _*_, _/_, _%_, _^_, _≤_, _<_}

@@ -36,11 +36,9 @@ module _ (was : List ℕ) (start n : ℕ) where
       laid-within was start enough (laid-then was start (one-laid was start 32 long) a)
 
   -- one digit is laid out with its space
-  pub low-laid : (k : ℕ) → 1 ≤ k → n < 10 → length was ≡ output → Laid was start (spaced n) (k + 1) (set (set was start 32) (start + 1) (digit n)) (start + 2)
+  pub low-laid : n < 10 → length was ≡ output → Laid was start (spaced n) 2 (set (set was start 32) (start + 1) (digit n)) (start + 2)
   unfolding spaced
-  low-laid k some h long =
-      let enough : 2 ≤ k + 1 = omega arith in
-      rw (decimal-low n h) (laid-within was start enough (two-laid was start 32 (digit n) long))
+  low-laid h long = rw (decimal-low n h) (two-laid was start 32 (digit n) long)
 
 -- a number of 32 bits has at most ten digits, and one of 64 bits at most twenty
 pub digits-most-32 : (n : ℕ) → n ≤ most32 → length (decimal n) ≤ 10

@@ -66,7 +66,7 @@ fn few_digits(out: &mut Output, at: usize, n: u32) -> usize
     four_digits(out, at, n)
 }
 
-// The digits of a number, the first of them not 0 unless it is the only one; a long division gives four at a time.
+// The digits of a number, the first of them not 0 unless it is the only one; one division gives the last four.
 fn digits(out: &mut Output, at: usize, n: u64) -> usize
     requires { ⌜ Room (now out) at (length (decimal n)) ⌝ }
     ensures { λ r. ⌜ Laid (now (out .entry)) at (decimal n) (length (decimal n)) (now (out .exit)) r ⌝ }
