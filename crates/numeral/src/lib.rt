@@ -50,8 +50,8 @@ fn groups(s: &[u8], at: usize, allowed: u32) -> Number
     Number::Read((b % 128) as u32 + 128 * high, end)
 }
 
-// The number at a place of a tape, or why there is none; a place at or past the end is cut short. Most numbers of a tape
-// have one byte or two, so these are answered at once.
+// The number at a place of a tape, or why there is none; a place at or past the end is cut short. Most numbers have one
+// byte or two, so these are answered at once.
 pub fn read(s: &[u8], at: usize) -> Number
     ensures { λ r. ⌜ r ≡ numberAt (now (s .entry)) at ⌝ }
 {
