@@ -19,6 +19,13 @@ spelled (suc k) false n = spelled k (ltb (n / 10) 10) (n / 10) ++ (digit (n % 10
 unfoldable pub decimal : ℕ → List ℕ
 decimal n = spelled n (ltb n 10) n
 
+-- the digits of a number below 100 as two, and of one below 10,000 as four, zeros in front too
+abbrev pub twoDigits : ℕ → List ℕ
+twoDigits n = digit (n / 10) ∷ digit (n % 10) ∷ []
+
+abbrev pub fourDigits : ℕ → List ℕ
+fourDigits n = twoDigits (n / 100) ++ twoDigits (n % 100)
+
 -- the number that digits spell, after the number v that those before them spell
 unfoldable pub readOn : ℕ → List ℕ → ℕ
 readOn v [] = v

@@ -1,7 +1,7 @@
--- The digits of a number: one division gives one of them; read back they give the number; each is a digit, and the
--- first is 0 for 0 alone.
+-- The digits of a number: one division gives one of them, or two, or four; read back they give the number; each is a
+-- digit, and the first is 0 for 0 alone.
 use mathlib.Core.Path.{_≡_, refl, sym, ap}
-use mathlib.Core.List.{List, [], _∷_, _++_}
+use mathlib.Core.List.{List, [], _∷_, _++_, append-assoc}
 use Prim.Native.Nat.{ℕ, zero, suc, _+_, _-_, _*_, _/_, _%_, _^_, _≤_, _<_}
 use native.Mathlib.Nat.{pow-succ'}
 use native.Mathlib.Decide.{decLt}
@@ -11,7 +11,7 @@ use lib.ListN.{length, length-append, List·getD-append}
 use lib.Seq.{getD-append-seam}
 use borrow.Author.Tests.{lt-ltb, le-ltb}
 use Rattle.units.specs.Places.{at}
-use Rattle.lines.specs.Decimal.{digit, spelled, decimal, readOn, valueOf}
+use Rattle.lines.specs.Decimal.{digit, spelled, decimal, twoDigits, fourDigits, readOn, valueOf}
 
 low-digit : (k n : ℕ) → n < 10 → spelled k (ltb n 10) n ≡ digit n ∷ []
 unfolding spelled
@@ -39,6 +39,32 @@ unfolding decimal spelled
 decimal-high zero h = absurd (omega arith)
 decimal-high (suc n) h =
     rw (le-ltb (suc n) 10 h) (ap (λ z. z ++ (digit (suc n % 10) ∷ [])) (spelled-enough n (suc n / 10) (suc n / 10) (omega arith) (omega arith)))
+
+-- so the last two are those of what a hundred leaves,
+pub decimal-hundreds : (n : ℕ) → 100 ≤ n → decimal n ≡ decimal (n / 100) ++ twoDigits (n % 100)
+decimal-hundreds n h =
+    let up : n / 10 / 10 ≡ n / 100 = omega arith in
+    let ten : n / 10 % 10 ≡ n % 100 / 10 = omega arith in
+    let one : n % 10 ≡ n % 100 % 10 = omega arith in
+    rw (decimal-high n (omega arith), decimal-high (n / 10) (omega arith), append-assoc, up, ten, one)
+
+-- and the last four those of what ten thousand leaves
+pub decimal-more : (n : ℕ) → 10000 ≤ n → decimal n ≡ decimal (n / 10000) ++ fourDigits (n % 10000)
+decimal-more n h =
+    let up : n / 100 / 100 ≡ n / 10000 = omega arith in
+    let high : n / 100 % 100 ≡ n % 10000 / 100 = omega arith in
+    let low : n % 100 ≡ n % 10000 % 100 = omega arith in
+    rw (decimal-hundreds n (omega arith), decimal-hundreds (n / 100) (omega arith), append-assoc, up, high, low)
+
+-- a number of two digits, of three and of four
+pub decimal-two : (n : ℕ) → 10 ≤ n → n < 100 → decimal n ≡ twoDigits n
+decimal-two n h l = rw (decimal-high n h, decimal-low (n / 10) (omega arith))
+
+pub decimal-three : (n : ℕ) → 100 ≤ n → n < 1000 → decimal n ≡ digit (n / 100) ∷ twoDigits (n % 100)
+decimal-three n h l = rw (decimal-hundreds n h, decimal-low (n / 100) (omega arith))
+
+pub decimal-four : (n : ℕ) → 1000 ≤ n → n < 10000 → decimal n ≡ fourDigits n
+decimal-four n h l = rw (decimal-hundreds n (omega arith), decimal-two (n / 100) (omega arith) (omega arith))
 
 -- what holds of one digit, and of a number wherever it holds of a tenth of it, holds of all
 module _ (P : ℕ → Type 0) (low : (n : ℕ) → n < 10 → P n) (high : (n : ℕ) → 10 ≤ n → P (n / 10) → P n) where

@@ -73,6 +73,13 @@ module _ (was : List ℕ) (start : ℕ) where
   pub one-laid : (d : ℕ) → length was ≡ output → Laid was start (d ∷ []) 1 (set was start d) (start + 1)
   one-laid d h = record { stored = refl; end = refl; long = length-set was start d ∙ h; near = omega arith }
 
+  pub two-laid : (d e : ℕ) → length was ≡ output → Laid was start (d ∷ e ∷ []) 2 (set (set was start d) (start + 1) e) (start + 2)
+  two-laid d e h = record { stored = rw add-one; end = refl; long = simp length-set h; near = omega arith }
+
+  -- room for one byte fewer after the first
+  pub room-after : (d k : ℕ) → Room was start (k + 1) → Room (set was start d) (start + 1) k
+  room-after d k h = record { long = length-set was start d ∙ h .long; fits = omega (arith, h .fits) }
+
   -- a loop that lays out w byte by byte: the first i of them stand
   pub record Laying (w : List ℕ) (i : ℕ) (lent : List ℕ) : Type 0 where
     pub passed : i ≤ length w

@@ -50,10 +50,26 @@ fn groups(s: &[u8], at: usize, allowed: u32) -> Number
     Number::Read((b % 128) as u32 + 128 * high, end)
 }
 
-// The number at a place of a tape, or why there is none; a place at or past the end is cut short.
+// The number at a place of a tape, or why there is none; a place at or past the end is cut short. Most numbers have one
+// byte or two, so these are answered at once.
 pub fn read(s: &[u8], at: usize) -> Number
     ensures { λ r. ⌜ r ≡ numberAt (now (s .entry)) at ⌝ }
 {
+    if at < s.len() {
+        let b = s[at];
+        if b < 128 {
+            return Number::Read(b as u32, at + 1);
+        }
+        if at + 1 < s.len() {
+            let c = s[at + 1];
+            if c < 128 {
+                if c == 0 {
+                    return Number::Refused(PADDED);
+                }
+                return Number::Read((b % 128) as u32 + 128 * c as u32, at + 2);
+            }
+        }
+    }
     groups(s, at, GROUPS)
 }
 
