@@ -5,3 +5,5 @@ pub mod Edge
 pub mod EdgeLaws
 pub mod Shares
 pub mod ShareLaws
+pub mod Serving
+pub mod ServingLaws

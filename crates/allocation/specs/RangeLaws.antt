@@ -1,4 +1,4 @@
--- No key and no number is past the last, among the rows that an order may trade with.
+-- No key and no number is past the last and no size is too large, among the rows that an order may trade with.
 use mathlib.Core.List.{List}
 use mathlib.Core.Bool.{Bool, true, false, cond, _&&_}
 use Prim.Native.Nat.{ℕ, _-_, _≤_, _<_}
@@ -6,9 +6,9 @@ use native.Mathlib.Omega.{arith}
 use lib.Dec.{eqb}
 use Rattle.units.specs.Picked.{keep-most, same, same-found}
 use Rattle.units.specs.Places.{at}
-use Rattle.rows.specs.Rows.{rows, highest, noPrice, noNumber, selling, keyOf, within, openSize}
+use Rattle.rows.specs.Rows.{rows, highest, largest, noPrice, noNumber, selling, keyOf, within, openSize}
 use Rattle.levels.specs.Levels.{keysOn, opensOn}
-use Rattle.allocation.specs.Ranges.{Priced, Numbered}
+use Rattle.allocation.specs.Ranges.{Small, Priced, Numbered}
 
 -- no more of a row may be traded than it holds
 pub open-most : (s bound side price size : ℕ) → openSize s bound side price size ≤ size
@@ -29,6 +29,9 @@ module _ (s bound : ℕ) (sides prices sizes : List ℕ) where
 
   holds : (i : ℕ) → 0 < opens i → 0 < at sizes i
   holds i x = omega (arith, open-most s bound (at sides i) (at prices i) (at sizes i))
+
+  pub opens-small : Small sizes → (i : ℕ) → i < rows → opens i ≤ largest
+  opens-small h i p = omega (arith, open-most s bound (at sides i) (at prices i) (at sizes i), h i p)
 
   pub keys-below : Priced prices sizes → (i : ℕ) → i < rows → 0 < opens i → keysOn s (at prices) i < noPrice
   keys-below h i p x = omega (arith, key-most s (at prices i) (h i p (holds i x)))

@@ -1,7 +1,6 @@
 -- Laws of what a row trades, told by the edge.
-use mathlib.Core.Path.{_≡_, _∙_}
+use mathlib.Core.Path.{_≡_}
 use Prim.Native.Nat.{ℕ, _+_, _<_}
-use native.Mathlib.Nat.{add-zero}
 use native.Mathlib.Omega.{arith}
 use lib.Dec.{ltb}
 use borrow.Author.Tests.{lt-ltb, le-ltb}
@@ -18,10 +17,6 @@ module _ (t : Portions) (size rank : ℕ) where
   pub share-is : 0 < size → shareAt t size rank ≡ wholeOf (t .left .0) size (t .total .0) + keep (ltb rank (t .spare .0)) 1
   unfolding shareAt
   share-is x = simp (lt-ltb 0 size x)
-
-  -- nothing was left over
-  pub share-spent : 0 < size → t .spare .0 ≡ 0 → shareAt t size rank ≡ wholeOf (t .left .0) size (t .total .0)
-  share-spent x z = share-is x ∙ rw (le-ltb rank (t .spare .0) (omega arith)) (add-zero _)
 
 module _ (k m size here : ℕ) where
   pub edge-before : k < m → toEdge k m size here ≡ size

@@ -97,12 +97,12 @@ use Rattle.rows.proofs.passes.order_row.Reads as rows-order-row
 use Rattle.rows.proofs.passes.free_row.Reads as rows-free-row
 use Rattle.levels.proofs.row.precedes.Reads as levels-precedes
 use Rattle.levels.proofs.row.whole.Reads as levels-whole
+use Rattle.levels.proofs.passes.tradable_at.Reads as levels-tradable-at
 use Rattle.levels.proofs.passes.best_from.Reads as levels-best-from
 use Rattle.levels.proofs.passes.level.Reads as levels-level
 use Rattle.levels.proofs.passes.next_from.Reads as levels-next-from
 use Rattle.levels.proofs.passes.held_by.Reads as levels-held-by
 use Rattle.levels.proofs.passes.whole_parts.Reads as levels-whole-parts
-use Rattle.levels.proofs.passes.rank.Reads as levels-rank
 use Rattle.allocation.proofs.shares.by_time.Reads as allocation-by-time
 use Rattle.allocation.proofs.shares.sharing.Reads as allocation-sharing
 use Rattle.allocation.proofs.shares.in_proportion.Reads as allocation-in-proportion
@@ -357,6 +357,9 @@ one-levels-precedes κs a z z′ e e′ = same
 pub one-levels-whole : OneResult levels-whole.Post
 one-levels-whole κs a z z′ e e′ p q = ap contracts (same p q)
 
+pub one-levels-tradable-at : OneResult levels-tradable-at.Post
+one-levels-tradable-at κs a z z′ e e′ p q = ap contracts (same p q)
+
 pub one-levels-best-from : OneResult levels-best-from.Post
 one-levels-best-from κs a z z′ e e′ = same
 
@@ -371,9 +374,6 @@ one-levels-held-by κs a z z′ e e′ p q = ap total (same p q)
 
 pub one-levels-whole-parts : OneResult levels-whole-parts.Post
 one-levels-whole-parts κs a z z′ e e′ p q = ap total (same p q)
-
-pub one-levels-rank : OneResult levels-rank.Post
-one-levels-rank κs a z z′ e e′ = same
 
 -- ---- allocation
 

@@ -1,10 +1,8 @@
 -- What is looked for and counted over the columns that a function is lent, as what it ensures names them.
 use Prim.Native.Nat.{ℕ}
-use Rattle.units.specs.Sums.{sumTo}
 use Rattle.units.specs.Picked.{same}
 use Rattle.units.specs.Lent.{Lent, found}
-use Rattle.rows.specs.Rows.{rows}
-use Rattle.levels.specs.Levels.{keysOn, opensOn, larger}
+use Rattle.levels.specs.Levels.{keysOn, opensOn}
 
 -- the rows' keys on side s
 abbrev pub keysIn : ℕ → Lent → ℕ → ℕ
@@ -17,8 +15,3 @@ opensIn s bound sides prices sizes = opensOn s bound (found sides) (found prices
 -- what of it at key c
 abbrev pub levelIn : ℕ → ℕ → ℕ → Lent → Lent → Lent → ℕ → ℕ
 levelIn s bound c sides prices sizes = same (keysIn s prices) c (opensIn s bound sides prices sizes)
-
--- how many rows at key c are larger than `size`, or of that size and earlier than n
-abbrev pub rankIn : ℕ → ℕ → ℕ → ℕ → ℕ → Lent → Lent → Lent → Lent → ℕ
-rankIn s bound c size n sides prices sizes numbers =
-    sumTo (larger (keysIn s prices) (opensIn s bound sides prices sizes) (found numbers) c size n) rows

@@ -1,5 +1,6 @@
 -- Laws of what a pass looks for and counts of one row.
-use mathlib.Core.Path.{_≡_}
+use mathlib.Core.Path.{_≡_, refl}
+use mathlib.Core.Bool.{Bool, true, false}
 use Prim.Native.Nat.{ℕ, _*_, _/_, _^_, _≤_, _<_}
 use native.Mathlib.Nat.{le-refl, mul-le-mul-left, mul-le-mul-right, div-le-of-le-mul, le-of-lt, lt-of-le-of-lt}
 use native.Mathlib.Decide.{decLe}
@@ -9,7 +10,7 @@ use borrow.Author.Tests.{lt-ltb, le-ltb, le-leb, lt-leb}
 use Rattle.units.specs.Units.{most32}
 use Rattle.units.specs.Tests.{order, less, equal, more}
 use Rattle.units.specs.Picked.{keep, same}
-use Rattle.levels.specs.Levels.{candidate, wholeOf, largerOf, larger}
+use Rattle.levels.specs.Levels.{candidate, wholeOf}
 
 module _ (top floor k size : ℕ) where
   pub candidate-free : size ≡ 0 → candidate top floor k size ≡ top
@@ -42,12 +43,17 @@ whole-most left size total = elim (decLe total left) [
   | no q ↦ simp (lt-leb total left (omega arith)) (share-most left size total (omega arith))
 ]
 
--- what a row counts for, as a loop's body gives it
-module _ (key size number : ℕ → ℕ) (c i : ℕ) {r : ℕ} where
-  pub larger-term : (s n : ℕ) → r ≡ largerOf (key i) (size i) (number i) c s n → r ≡ larger key size number c s n i
-  unfolding larger
-  larger-term s n e = e
+-- of nothing there is no share
+pub whole-none : (left size total : ℕ) → size ≤ 0 → 0 ≡ wholeOf left size total
+whole-none left size total h = omega (arith, whole-most left size total)
 
-  pub held-by-term : (n : ℕ) → r ≡ keep (eqb (number i) n) (keep (eqb (key i) c) (size i)) → r ≡ same number n (same key c size) i
-  unfolding same
-  held-by-term n e = e
+-- what is kept of a share is the share of what is kept
+pub whole-kept : (test : Bool) (left size total : ℕ) → keep test (wholeOf left size total) ≡ wholeOf left (keep test size) total
+whole-kept true left size total = refl
+whole-kept false left size total = whole-none left 0 total (omega arith)
+
+-- what a row counts for, as a loop's body gives it
+pub held-by-term : (key size number : ℕ → ℕ) (c n i : ℕ) {r : ℕ}
+    → r ≡ keep (eqb (number i) n) (keep (eqb (key i) c) (size i)) → r ≡ same number n (same key c size) i
+unfolding same
+held-by-term key size number c n i e = e

@@ -1,7 +1,6 @@
 // Passes that share an order among the rows that it may trade with: those of one side, within its bound.
 use crate::row::candidate;
 use crate::row::held_at;
-use crate::row::larger;
 use crate::row::whole;
 use rows::Column;
 use rows::NO_KEY;
@@ -20,8 +19,8 @@ ghost use Rattle.units.specs.Sums.{sumTo};
 ghost use Rattle.units.specs.Picked.{keep, same};
 ghost use Rattle.units.specs.Lent.{found};
 ghost use Rattle.rows.specs.Rows.{rows, noPrice, noNumber, keyOf, openSize};
-ghost use Rattle.levels.specs.Levels.{tradableAt, candidate, bestFrom, wholeOf, wholes, largerOf};
-ghost use Rattle.levels.specs.Lent.{keysIn, opensIn, levelIn, rankIn};
+ghost use Rattle.levels.specs.Levels.{tradableAt, candidate, bestFrom, wholeOf, wholes};
+ghost use Rattle.levels.specs.Lent.{keysIn, opensIn, levelIn};
 
 // A row's key, if something of it may be traded and it is not below the floor; else past every key.
 fn key_from(
@@ -39,7 +38,7 @@ fn key_from(
 }
 
 // What may be traded of a row, if it stands at key c.
-fn tradable_at(
+pub fn tradable_at(
     side: u32,
     bound: Cents,
     c: u64,
@@ -91,24 +90,6 @@ fn open_of(
     held_at(wide(number), tradable, n)
 }
 
-// 1 for a row at key c that is served before one of size s and number n: it is larger, or of that size and earlier.
-fn first_over(
-    side: u32,
-    bound: Cents,
-    c: u64,
-    s: Contracts,
-    n: u32,
-    row_side: u32,
-    price: Cents,
-    size: Contracts,
-    number: u32,
-) -> u32
-    ensures { λ r. ⌜ r ≡ largerOf (keyOf side (price .0)) (openSize side (bound .0) «row_side» (price .0) (size .0)) number c (s .0) n ⌝ }
-{
-    let tradable = open_size(side, bound, row_side, price, size);
-    larger(wide(key(side, price)), tradable, number, c, s, n)
-}
-
 // The whole part of a row's share of what is left, if it stands at key c.
 fn whole_at(
     side: u32,
@@ -122,8 +103,12 @@ fn whole_at(
 ) -> Contracts
     ensures { λ r. ⌜ r .0 ≡ keep (eqb (keyOf side (price .0)) c) (wholeOf (left .0) (openSize side (bound .0) «row_side» (price .0) (size .0)) (total .0)) ⌝ }
 {
-    let tradable = open_size(side, bound, row_side, price, size);
-    held_at(wide(key(side, price)), whole(left, tradable, total), c)
+    let tradable = tradable_at(side, bound, c, row_side, price, size);
+    if 0 < tradable.0 {
+        whole(left, tradable, total)
+    } else {
+        Contracts(0)
+    }
 }
 
 // The best key from the floor on at which something may be traded; past every key where nothing may.
@@ -280,37 +265,4 @@ pub fn whole_parts(
         i += 1;
     }
     Total(sum)
-}
-
-// How many at key c are larger than s, or of size s and earlier than n.
-pub fn rank(
-    side: u32,
-    bound: Cents,
-    c: u64,
-    s: Contracts,
-    n: u32,
-    sides: &Column,
-    prices: &Column,
-    sizes: &Column,
-    numbers: &Column,
-) -> u64
-    ensures { λ r. ⌜ r ≡ rankIn side (bound .0) c (s .0) n sides prices sizes numbers ⌝ }
-{
-    let mut count: u64 = 0;
-    let mut i: usize = 0;
-    while i < ROWS {
-        count += wide(first_over(
-            side,
-            bound,
-            c,
-            s,
-            n,
-            sides[i],
-            Cents(prices[i]),
-            Contracts(sizes[i]),
-            numbers[i],
-        ));
-        i += 1;
-    }
-    count
 }

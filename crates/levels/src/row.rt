@@ -1,12 +1,10 @@
 // What one row counts for among those that share an order, by its key, its size and its order number.
-use rows::row::one;
-use rows::row::wide;
 use units::Contracts;
 use units::Total;
 ghost use mathlib.Core.Path.{_≡_};
 ghost use lib.Dec.{eqb};
 ghost use Rattle.units.specs.Picked.{keep, precedes};
-ghost use Rattle.levels.specs.Levels.{candidate, wholeOf, largerOf};
+ghost use Rattle.levels.specs.Levels.{candidate, wholeOf};
 
 // a comes before b; or they are the same, and n comes before m.
 pub fn precedes(a: u64, b: u64, n: u32, m: u32) -> bool
@@ -50,20 +48,5 @@ pub fn whole(left: Contracts, size: Contracts, total: Total) -> Contracts
         size
     } else {
         Contracts((q * size.0 as u64 / total.0) as u32)
-    }
-}
-
-// 1 for a row at key c that is larger than s, or of size s and earlier than n.
-pub(crate) fn larger(k: u64, size: Contracts, number: u32, c: u64, s: Contracts, n: u32) -> u32
-    ensures { λ r. ⌜ r ≡ largerOf k (size .0) number c (s .0) n ⌝ }
-{
-    if k == c {
-        if 0 < size.0 {
-            one(precedes(wide(s.0), wide(size.0), number, n))
-        } else {
-            0
-        }
-    } else {
-        0
     }
 }

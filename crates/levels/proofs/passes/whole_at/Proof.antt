@@ -1,5 +1,6 @@
--- `levels::passes::whole_at` meets its contract, by its calls.
+-- `levels::passes::whole_at` meets its contract: of nothing there is no share.
 use borrow.Author.Needs.{needs}
+use Rattle.levels.specs.LevelLaws.{whole-kept, whole-none}
 use Rattle.levels.proofs.passes.whole_at.Statement.{statement}
 use Rattle.levels.proofs.passes.whole_at.Tie as tie
 
@@ -9,7 +10,5 @@ whole-at-spec =
     (tie.spec
     (λ c κs. search needs)
     (λ c κs. search needs)
-    (λ c κs. search needs)
-    (λ c κs. search needs)
-    (λ c κs. search needs)
-    (λ c. cc))
+    (λ c. rw whole-kept (rw (c .before .before .before .tradable-at .ensures) at (c .whole .ensures)))
+    (λ c. rw whole-kept (whole-none _ _ _ (rw (c .before .before .tradable-at .ensures) at (c .if1 .left)))))
