@@ -103,6 +103,7 @@ use Rattle.levels.proofs.passes.level.Reads as levels-level
 use Rattle.levels.proofs.passes.next_from.Reads as levels-next-from
 use Rattle.levels.proofs.passes.held_by.Reads as levels-held-by
 use Rattle.levels.proofs.passes.whole_parts.Reads as levels-whole-parts
+use Rattle.marks.proofs.insert.Reads as marks-insert
 use Rattle.allocation.proofs.shares.by_time.Reads as allocation-by-time
 use Rattle.allocation.proofs.shares.sharing.Reads as allocation-sharing
 use Rattle.allocation.proofs.shares.in_proportion.Reads as allocation-in-proportion
@@ -374,6 +375,11 @@ one-levels-held-by κs a z z′ e e′ p q = ap total (same p q)
 
 pub one-levels-whole-parts : OneResult levels-whole-parts.Post
 one-levels-whole-parts κs a z z′ e e′ p q = ap total (same p q)
+
+-- ---- marks
+
+pub one-marks-insert : OneOutcome marks-insert.Post first
+one-marks-insert κs a z z′ e e′ = stored
 
 -- ---- allocation
 
