@@ -8,6 +8,7 @@ pub mod SettleLaws
 pub mod Deal
 pub mod Sound
 pub mod Demands
+pub mod ReachLaws
 pub mod TradeLaws
 pub mod OrderLaws
 pub mod DealLaws
