@@ -5,6 +5,7 @@ pub mod Credit
 pub mod CreditLaws
 pub mod Settle
 pub mod SettleLaws
+pub mod Reach
 pub mod Deal
 pub mod Sound
 pub mod Demands

@@ -1,5 +1,4 @@
--- An order whose bound is short of the best quote that it could meet, or that meets none, has no resting row within its
--- bound: it leaves everything as it was.
+-- An order out of reach has no resting row within its bound, and leaves everything as it was.
 use mathlib.Core.Path.{_≡_, refl, ap}
 use mathlib.Core.Logic.{⊎-elim}
 use mathlib.Core.Bool.{Bool, true, false}
@@ -30,9 +29,10 @@ use Rattle.entry.specs.QuoteLaws.{lower-says}
 use Rattle.tally.specs.declared.Tally.{Tally}
 use Rattle.dealing.specs.declared.settle.Settled.{Settled}
 use Rattle.dealing.specs.Floor.{Floor}
-use Rattle.dealing.specs.Settle.{otherSide, opposite, Quoted, outOfReach, Settles, settledOf}
+use Rattle.dealing.specs.Settle.{otherSide, opposite, Settles, settledOf}
 use Rattle.dealing.specs.SettleLaws.{settled-none}
 use Rattle.dealing.specs.Deal.{quotesOn}
+use Rattle.dealing.specs.Reach.{Quoted, outOfReach}
 
 -- the quotes on a floor are those of its book and of the away quote that they name
 pub floor-quoted : (f : Floor) (q : Quotes) → q ≡ quotesOn f → Quoted (f .book) q
@@ -63,6 +63,7 @@ module _ (b : Book) (next : ℕ) (sound : SoundBook b next) where
       (some, omega arith)
 
   module _ (q : Quotes) (quoted : Quoted b q) (bound : ℕ) where
+    -- a buy below NBO finds no sell, and a sell above NBB no buy
     no-sell : (absent (q .nbo) or ltb bound (q .nbo .0)) ≡ true → withinBound b 2 bound ≡ 0
     unfolding quotesOf
     no-sell h = none-within b 2 bound λ i r x.
@@ -80,6 +81,7 @@ module _ (b : Book) (next : ℕ) (sound : SoundBook b next) where
         let near = bid-within bound (sideAt b i) (priceAt b i) (sizeAt b i) x in
         ⊎-elim (λ z. omega (arith, eqb-true (q .nbb .0) 0 z)) (λ l. omega (arith, ltb-true (q .nbb .0) bound l)) (or-true _ _ h)
 
+    -- so nothing rests within the bound of an order out of reach
     nothing-within : (side : ℕ) → outOfReach side bound q ≡ true → withinBound b (otherSide side) bound ≡ 0
     unfolding outOfReach pick
     nothing-within side = by (eqb side 1)
@@ -90,7 +92,7 @@ module _ (b : Book) (next : ℕ) (sound : SoundBook b next) where
         by true = no-sell
         by false = no-buy
 
--- an order out of reach leaves book, records and tallies as they were, and fills nothing
+-- which leaves book, records and tallies as they were, and fills nothing
 module _ (tallies : List Tally) (t : ℕ) (e : Entry) (sides prices sizes owners numbers was : List ℕ) where
   abbrev b : Book
   b = bookOf sides prices sizes owners numbers

@@ -1,23 +1,19 @@
 -- What an order that trades makes of the tallies.
 use mathlib.Core.Path.{_≡_}
-use mathlib.Core.Bool.{Bool}
 use mathlib.Core.List.{List}
 use Prim.Native.Nat.{ℕ, _+_, _*_, _≤_, _<_, _^_}
-use lib.Dec.{ltb, eqb}
+use lib.Dec.{eqb}
 use lib.ListN.{length}
 use Rattle.units.specs.Units.{contracts, tenants}
-use Rattle.units.specs.Tests.{_or_, pick}
+use Rattle.units.specs.Tests.{pick}
 use Rattle.rows.specs.Rows.{rows, noNumber}
-use Rattle.book.specs.Book.{Book, bestBid, bestOffer}
+use Rattle.book.specs.Book.{Book}
 use Rattle.book.specs.Sound.{SoundBook, resting}
 use Rattle.book.specs.Trading.{ofTenant, filled, traded, tradeRecords}
 use Rattle.book.specs.Records.{fields}
 use Rattle.entry.specs.declared.Entry.{Entry}
-use Rattle.entry.specs.declared.Quotes.{Quotes}
-use Rattle.entry.specs.Numbers.{absent}
 use Rattle.entry.specs.Entry.{isBuy}
 use Rattle.entry.specs.EntryLaws.{Proper}
-use Rattle.entry.specs.Quotes.{quotesOf}
 use Rattle.tally.specs.declared.Tally.{Tally}
 use Rattle.tally.specs.Tallies.{added, onlyFor, turnsInAll, boughtInAll, soldInAll}
 use Rattle.dealing.specs.declared.settle.Settled.{Settled}
@@ -28,15 +24,6 @@ otherSide side = pick (eqb side 1) 2 1
 
 abbrev pub opposite : Entry → ℕ
 opposite e = otherSide (e .side)
-
--- the quotes are those of a book and of the away quote that they name
-abbrev pub Quoted : Book → Quotes → Type 0
-Quoted b q = q ≡ quotesOf (bestBid b) (bestOffer b) (q .away)
-
--- an order reaches no resting row: a buy where NBO is absent or above its bound, a sell where NBB is absent or below it
-unfoldable pub outOfReach : ℕ → ℕ → Quotes → Bool
-outOfReach side bound q =
-    pick (eqb side 1) (absent (q .nbo) or ltb bound (q .nbo .0)) (absent (q .nbb) or ltb (q .nbb .0) bound)
 
 -- what settling rests on: a sound book, a proper order of a tenant, records for every row, and sums that fit
 pub record Settles (tallies : List Tally) (t : ℕ) (e : Entry) (b : Book) (was : List ℕ) : Type 0 where

@@ -15,7 +15,8 @@ use units::words::either;
 ghost use mathlib.Core.Path.{_≡_};
 ghost use Rattle.book.specs.Lent.{given, before, after};
 ghost use Rattle.book.specs.Trading.{afterTrade, tradeWritten};
-ghost use Rattle.dealing.specs.Settle.{otherSide, opposite, Quoted, outOfReach, Settles, settledOf};
+ghost use Rattle.dealing.specs.Settle.{otherSide, opposite, Settles, settledOf};
+ghost use Rattle.dealing.specs.Reach.{Quoted, outOfReach};
 
 // The tallies after the trade, contracts filled, and how many fill records were written.
 pub struct Settled {
@@ -33,7 +34,7 @@ fn other_side(side: u32) -> u32
 
 // The order trades with opposite rows within its bound; each tenant's tally is added to, the incoming order's and those
 // of the rows that traded. An order that fills nothing leaves the tallies as they are, without a pass over the rows.
-pub(crate) fn settle(
+fn settle(
     tallies: Tallies,
     allocation: u32,
     t: usize,
@@ -97,7 +98,8 @@ fn out_of_reach(side: u32, bound: Cents, q: Quotes) -> bool
     }
 }
 
-// As `settle`. Most orders reach no resting row, as the quotes tell: these settle nothing, without a pass over the rows.
+// As `settle`. Most orders reach no resting row, and the quotes tell: these settle nothing, without a pass over the
+// rows.
 pub(crate) fn settle_in_reach(
     tallies: Tallies,
     allocation: u32,

@@ -2,7 +2,7 @@
 use borrow.Author.Needs.{needs}
 use borrow.Author.Tests.{eq-eqb, ne-eqb}
 use Rattle.units.specs.Tests.{pick}
-use Rattle.dealing.specs.Settle.{outOfReach}
+use Rattle.dealing.specs.Reach.{outOfReach}
 use Rattle.dealing.proofs.settle.out_of_reach.Statement.{statement}
 use Rattle.dealing.proofs.settle.out_of_reach.Tie as tie
 
