@@ -1,15 +1,16 @@
 -- Laws of trading: what a row gives, what all together give, and how the columns that the program works out are those
 -- of the definitions.
 use mathlib.Core.Path.{_≡_, refl, sym, ap, _∙_}
-use mathlib.Core.Bool.{true}
+use mathlib.Core.Bool.{Bool, true, false, _&&_}
 use mathlib.Core.List.{List, []}
 use Prim.Native.Nat.{ℕ, _*_, _-_, _/_, _≤_, _<_, min}
 use native.Mathlib.Decide.{ℕ-discrete}
 use native.Mathlib.Omega.{arith}
+use lib.Dec.{eqb}
 use lib.ListN.{length, replicate, length-replicate, getD-replicate}
-use borrow.Author.Tests.{le-ltb, eq-eqb, ne-eqb}
+use borrow.Author.Tests.{le-ltb, eq-eqb, ne-eqb, leb-true}
 use Rattle.units.specs.Sums.{sumTo, sum-none, sum-has}
-use Rattle.units.specs.Picked.{precedes}
+use Rattle.units.specs.Picked.{keep, precedes}
 use Rattle.units.specs.Units.{contracts}
 use Rattle.units.specs.Places.{at, table, table-at, table-is, table-same}
 use Rattle.rows.specs.Rows.{rows, keyOf, within, openSize}
@@ -35,6 +36,25 @@ open-side s bound side price size x = elim (ℕ-discrete side s) [
   | yes e ↦ e
   | no e ↦ absurd (omega (arith, simp (ne-eqb side s e) at x))
 ]
+
+-- and within the bound:
+pub open-within : (s bound side price size : ℕ) → 0 < openSize s bound side price size → within s price bound ≡ true
+unfolding openSize
+open-within s bound side price size = go (eqb side s) (within s price bound)
+  where
+    go : (a b : Bool) → 0 < keep (a && b) size → b ≡ true
+    go true true x = refl
+    go true false x = absurd (omega arith)
+    go false b x = absurd (omega arith)
+
+-- an offer not above it, a bid not below
+pub offer-within : (bound side price size : ℕ) → 0 < openSize 2 bound side price size → price ≤ bound
+unfolding within
+offer-within bound side price size x = leb-true price bound (open-within 2 bound side price size x)
+
+pub bid-within : (bound side price size : ℕ) → 0 < openSize 1 bound side price size → bound ≤ price
+unfolding within
+bid-within bound side price size x = leb-true bound price (open-within 1 bound side price size x)
 
 -- and all of a row on side s and within the bound may be
 pub open-all : (s bound side price size : ℕ) → side ≡ s → within s price bound ≡ true → openSize s bound side price size ≡ size

@@ -5,9 +5,11 @@ pub mod Credit
 pub mod CreditLaws
 pub mod Settle
 pub mod SettleLaws
+pub mod Reach
 pub mod Deal
 pub mod Sound
 pub mod Demands
+pub mod ReachLaws
 pub mod TradeLaws
 pub mod OrderLaws
 pub mod DealLaws

@@ -2,7 +2,7 @@
 use crate::Came;
 use crate::Dealt;
 use crate::Series;
-use crate::settle::settle;
+use crate::settle::settle_in_reach;
 use book::Records;
 use book::quotes::best_bid;
 use book::quotes::best_offer;
@@ -166,12 +166,13 @@ fn trade_order(
         ≡ trades (met series tallies number sides prices sizes owners numbers) t e bound (now (records .entry)) ⌝ }
 {
     let terms = series.terms;
-    let done = settle(
+    let done = settle_in_reach(
         tallies,
         terms.allocation,
         t,
         e,
         bound,
+        quotes,
         sides,
         prices,
         sizes,

@@ -24,7 +24,7 @@ use Rattle.book.specs.RecordSums.{written-at}
 use Rattle.book.specs.Sound.{SoundBook}
 use Rattle.book.specs.SoundLaws.{sound-apart, row-of, live-apart}
 use Rattle.book.specs.Trading.{reach, filled as filledBy, traded, afterTrade, tradedRows, tradeRecords, tradeWritten}
-use Rattle.book.specs.TradingLaws.{open-side, open-all, traded-open, traded-most, traded-side, all-traded}
+use Rattle.book.specs.TradingLaws.{open-side, open-within, offer-within, bid-within, open-all, traded-open, traded-most, traded-side, all-traded}
 use Rattle.entry.specs.declared.Away.{Away}
 use Rattle.entry.specs.declared.Entry.{Entry}
 use Rattle.entry.specs.Entry.{isCancel, isBuy, isSell, newOrder}
@@ -45,25 +45,7 @@ use Rattle.demands.specs.Demand2Turn.{set-in, taken-by, serves-first, ac
 
 -- ---- one row
 
--- a row that may be traded is within the bound
-open-within : (s bound side price size : ℕ) → 0 < openSize s bound side price size → within s price bound ≡ true
-unfolding openSize
-open-within s bound side price size = go (eqb side s) (within s price bound)
-  where
-    go : (a b : Bool) → 0 < keep (a && b) size → b ≡ true
-    go true true x = refl
-    go true false x = absurd (omega arith)
-    go false b x = absurd (omega arith)
-
-offer-within : (bound side price size : ℕ) → 0 < openSize 2 bound side price size → price ≤ bound
-unfolding within
-offer-within bound side price size x = leb-true price bound (open-within 2 bound side price size x)
-
-bid-within : (bound side price size : ℕ) → 0 < openSize 1 bound side price size → bound ≤ price
-unfolding within
-bid-within bound side price size x = leb-true bound price (open-within 1 bound side price size x)
-
--- and all that rests of it may be traded
+-- all that rests of a row that may be traded may be
 open-whole : (s bound side price size : ℕ) → 0 < openSize s bound side price size → openSize s bound side price size ≡ size
 unfolding openSize
 open-whole s bound side price size = go (eqb side s && within s price bound)

@@ -10,7 +10,7 @@ use Rattle.units.specs.Says.{same-says, or-says}
 use Rattle.units.specs.CountLaws.{one-count}
 use Rattle.book.specs.Book.{Book, bestBid, bestOffer, restingOf}
 use Rattle.book.specs.BookLaws.{buy-most}
-use Rattle.book.specs.BestLaws.{OwnRow, resting-counted, bid-found, offer-found, offer-least}
+use Rattle.book.specs.BestLaws.{OwnRow, resting-counted, bid-found, offer-found}
 use Rattle.book.specs.Sound.{SoundBook}
 use Rattle.entry.specs.declared.Entry.{Entry}
 use Rattle.entry.specs.declared.Quotes.{Quotes}
@@ -23,6 +23,7 @@ use Rattle.checks.specs.Words.{judged-says, not-yet-says, off-grid-says, at-str
 use Rattle.judge.specs.Disposition.{dispositions}
 use Rattle.judge.specs.Words.{beyond-drill-says, at-away-says, buy-bound-says, sell-bound-says}
 use Rattle.dealing.specs.Deal.{quotesOn}
+use Rattle.dealing.specs.ReachLaws.{sell-offered}
 use Rattle.session.specs.Market.{Market}
 use Rattle.session.specs.Turn.{quotesIn, standingOf}
 use Rattle.demands.specs.Runs.{headEntry}
@@ -98,10 +99,7 @@ module _ (b : Book) (next : ℕ) (sound : SoundBook b next) (away : ℕ) where
   nbo-of : IsNBO b away (lowerOffer (bestOffer b) away)
   nbo-of = let low = lower-says (bestOffer b) away in record {
     away-offer = low .second;
-    sells = λ i r.
-        let (there, least) = offer-least b next sound i r in
-        let (some, lower) = low .first there in
-        (some, omega arith);
+    sells = sell-offered b next sound away;
     one-of = ⊎-elim
         (λ (is : lowerOffer (bestOffer b) away ≡ bestOffer b). elim (order 0 (bestOffer b)) [
           | less h ↦ inr (let (i, r, found) = offer-found b next sound h in (i, r, omega arith))
