@@ -5,5 +5,7 @@ pub mod Edge
 pub mod EdgeLaws
 pub mod Shares
 pub mod ShareLaws
+pub mod Collecting
+pub mod CollectingLaws
 pub mod Serving
 pub mod ServingLaws

@@ -102,7 +102,6 @@ use Rattle.levels.proofs.passes.best_from.Reads as levels-best-from
 use Rattle.levels.proofs.passes.level.Reads as levels-level
 use Rattle.levels.proofs.passes.next_from.Reads as levels-next-from
 use Rattle.levels.proofs.passes.held_by.Reads as levels-held-by
-use Rattle.levels.proofs.passes.whole_parts.Reads as levels-whole-parts
 use Rattle.marks.proofs.insert.Reads as marks-insert
 use Rattle.allocation.proofs.shares.by_time.Reads as allocation-by-time
 use Rattle.allocation.proofs.shares.sharing.Reads as allocation-sharing
@@ -372,9 +371,6 @@ one-levels-next-from κs a z z′ e e′ = same
 
 pub one-levels-held-by : OneResult levels-held-by.Post
 one-levels-held-by κs a z z′ e e′ p q = ap total (same p q)
-
-pub one-levels-whole-parts : OneResult levels-whole-parts.Post
-one-levels-whole-parts κs a z z′ e e′ p q = ap total (same p q)
 
 -- ---- marks
 

@@ -1,7 +1,6 @@
 // Passes that share an order among the rows that it may trade with: those of one side, within its bound.
 use crate::row::candidate;
 use crate::row::held_at;
-use crate::row::whole;
 use rows::Column;
 use rows::NO_KEY;
 use rows::NO_NUMBER;
@@ -19,7 +18,7 @@ ghost use Rattle.units.specs.Sums.{sumTo};
 ghost use Rattle.units.specs.Picked.{keep, same};
 ghost use Rattle.units.specs.Lent.{found};
 ghost use Rattle.rows.specs.Rows.{rows, noPrice, noNumber, keyOf, openSize};
-ghost use Rattle.levels.specs.Levels.{tradableAt, candidate, bestFrom, wholeOf, wholes};
+ghost use Rattle.levels.specs.Levels.{tradableAt, candidate, bestFrom};
 ghost use Rattle.levels.specs.Lent.{keysIn, opensIn, levelIn};
 
 // A row's key, if something of it may be traded and it is not below the floor; else past every key.
@@ -88,27 +87,6 @@ fn open_of(
 {
     let tradable = tradable_at(side, bound, c, row_side, price, size);
     held_at(wide(number), tradable, n)
-}
-
-// The whole part of a row's share of what is left, if it stands at key c.
-fn whole_at(
-    side: u32,
-    bound: Cents,
-    c: u64,
-    left: Contracts,
-    total: Total,
-    row_side: u32,
-    price: Cents,
-    size: Contracts,
-) -> Contracts
-    ensures { λ r. ⌜ r .0 ≡ keep (eqb (keyOf side (price .0)) c) (wholeOf (left .0) (openSize side (bound .0) «row_side» (price .0) (size .0)) (total .0)) ⌝ }
-{
-    let tradable = tradable_at(side, bound, c, row_side, price, size);
-    if 0 < tradable.0 {
-        whole(left, tradable, total)
-    } else {
-        Contracts(0)
-    }
 }
 
 // The best key from the floor on at which something may be traded; past every key where nothing may.
@@ -230,38 +208,6 @@ pub fn held_by(
             numbers[i],
         );
         sum += wide(tradable.0);
-        i += 1;
-    }
-    Total(sum)
-}
-
-// The whole parts of the shares at key c.
-pub fn whole_parts(
-    side: u32,
-    bound: Cents,
-    c: u64,
-    left: Contracts,
-    total: Total,
-    sides: &Column,
-    prices: &Column,
-    sizes: &Column,
-) -> Total
-    ensures { λ r. ⌜ r .0 ≡ sumTo (same (keysIn side prices) c (wholes (left .0) (total .0) (opensIn side (bound .0) sides prices sizes))) rows ⌝ }
-{
-    let mut sum: u64 = 0;
-    let mut i: usize = 0;
-    while i < ROWS {
-        let part = whole_at(
-            side,
-            bound,
-            c,
-            left,
-            total,
-            sides[i],
-            Cents(prices[i]),
-            Contracts(sizes[i]),
-        );
-        sum += wide(part.0);
         i += 1;
     }
     Total(sum)
