@@ -51,10 +51,10 @@ module _ (held : ℕ → ℕ) where
     gathered = λ f z. omega (arith, sum-set f l n (held i) (omega (arith, w .few, w .long)), w .gathered f z, sum-next (λ j. f (held j)) i);
   }
 
-  pub collect-goes-on : (i : ℕ) (l l′ : List ℕ) (n s r : ℕ) → Collected held i l n → i < rows → s ≡ held i
-      → l′ ≡ appended s l n → r ≡ keep (ltb 0 s) 1 → Collected held (i + 1) l′ (n + r)
+  pub collect-goes-on : (i : ℕ) (l l′ : List ℕ) (n n′ s : ℕ) → Collected held i l n → i < rows → s ≡ held i
+      → l′ ≡ appended s l n → n′ ≡ n + keep (ltb 0 s) 1 → Collected held (i + 1) l′ n′
   unfolding appended
-  collect-goes-on i l l′ n s r w h e f g = rw (f, g, e) (elim (order 0 (held i)) [
+  collect-goes-on i l l′ n n′ s w h e f g = rw (f, g, e) (elim (order 0 (held i)) [
     | less x ↦ rw (lt-ltb 0 (held i) x) (collect-grows i l n w h)
     | equal x ↦ rw (le-ltb 0 (held i) (omega arith), add-zero) (collect-stays i l n w h (sym x))
     | more x ↦ absurd (omega arith)
