@@ -16,7 +16,7 @@ use Rattle.book.specs.Book.{bestOffer, crosses, rested}
 use Rattle.book.specs.Allocation.{classOf, before, earlier, left, fill}
 use Rattle.book.specs.Records.{soonerThan, pos, ofTraded, records, recorded, fieldOf, written}
 use Rattle.book.specs.Trading.{ofTenant, filled, traded, afterTrade, tradeRecords, tradeWritten}
-use Rattle.lines.specs.Decimal.{spelled, decimal}
+use Rattle.units.specs.Decimal.{spelled, decimal}
 use Rattle.lines.specs.Lines.{spaced}
 use Rattle.lines.specs.Gone.{above, goneOf, goneOrder, nextGone}
 use Rattle.tally.specs.Tallies.{addedFrom}

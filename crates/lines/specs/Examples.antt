@@ -1,7 +1,7 @@
 -- Lines as they are printed: those of the worked example, and the longest numbers.
 use mathlib.Core.Path.{_≡_, refl}
 use mathlib.Core.List.{List, [], _∷_}
-use Rattle.lines.specs.Decimal.{spelled, decimal}
+use Rattle.units.specs.Decimal.{spelled, decimal}
 use Rattle.lines.specs.Lines.{spaced, setLine, awayLine, submitLine, turnLine, refusedLine, openLine, fillLineOf, goneLine, tapeLine, endLine}
 use Rattle.lines.specs.Gone.{filledOf, goneOrder}
 use Rattle.lines.specs.Lines.{tallyLine}

@@ -1,12 +1,12 @@
 -- Bytes laid out in the output that the caller lends.
 use mathlib.Core.Path.{_≡_, refl, ap, sym, _∙_}
 use mathlib.Core.List.{List, [], _∷_, _++_}
-use Prim.Native.Nat.{ℕ, suc, _+_, _≤_, _<_}
+use Prim.Native.Nat.{ℕ, _+_, _≤_, _<_}
 use native.Mathlib.Numerals.{add-one}
 use native.Mathlib.Omega.{arith}
 use lib.ListN.{length, set, take, length-append, length-set}
 use lib.Seq.{sets, length-sets, take-suc, take-all, length-take-le}
-use Rattle.units.specs.Places.{at}
+use Rattle.units.specs.Places.{at, sets-append}
 
 -- the bytes that the caller lends
 abbrev pub output : ℕ
@@ -46,13 +46,6 @@ pub record Laid (was : List ℕ) (start : ℕ) (bytes : List ℕ) (most : ℕ) (
   -- both follow, and the next line asks for them
   pub long : length lent ≡ output
   pub near : r ≤ start + most
-
--- bytes after bytes
-sets-append : (xs ys was : List ℕ) (start : ℕ) → sets was start (xs ++ ys) ≡ sets (sets was start xs) (start + length xs) ys
-sets-append [] ys was start = let e : start + 0 ≡ start = omega arith in rw e
-sets-append (x ∷ xs) ys was start =
-    let e : start + suc (length xs) ≡ suc start + length xs = omega arith in
-    rw e (sets-append xs ys (set was start x) (suc start))
 
 module _ (was : List ℕ) (start : ℕ) where
   pub laid-then : {xs ys one two : List ℕ} {m n r s : ℕ}

@@ -1,7 +1,5 @@
 -- What the lines promise: the bytes of each, and which orders an opening cancelled.
 pub mod Letters
-pub mod Decimal
-pub mod DecimalLaws
 pub mod Laying
 pub mod Lines
 pub mod Numbered

@@ -3,7 +3,7 @@ use mathlib.Core.List.{List, _++_}
 use Prim.Native.Nat.{ℕ}
 use Rattle.book.specs.declared.Fill.{Fill}
 use Rattle.lines.specs.Letters.{letters}
-use Rattle.lines.specs.Decimal.{decimal}
+use Rattle.units.specs.Decimal.{decimal}
 
 -- Every line ends in it.
 abbrev pub newline : List ℕ

@@ -5,8 +5,8 @@ use Prim.Native.Nat.{ℕ, _+_, _/_, _%_, _≤_, _<_}
 use native.Mathlib.Omega.{arith}
 use lib.ListN.{length, set, length-append, length-set}
 use Rattle.units.specs.Units.{most32}
-use Rattle.lines.specs.Decimal.{digit, decimal, fourDigits}
-use Rattle.lines.specs.DecimalLaws.{decimal-low, decimal-more, decimal-most}
+use Rattle.units.specs.Decimal.{digit, decimal, fourDigits}
+use Rattle.units.specs.DecimalLaws.{decimal-low, decimal-more, decimal-most}
 use Rattle.lines.specs.Laying.{output, Room, Laid, laid-then, laid-within, one-laid, two-laid}
 use Rattle.lines.specs.Lines.{spaced}
 

@@ -2,7 +2,7 @@
 use crate::Output;
 ghost use Prim.Native.Nat.{_<_};
 ghost use lib.ListN.{length};
-ghost use Rattle.lines.specs.Decimal.{decimal, twoDigits, fourDigits};
+ghost use Rattle.units.specs.Decimal.{decimal, twoDigits, fourDigits};
 ghost use Rattle.lines.specs.Lines.{spaced, newline};
 ghost use Rattle.lines.specs.Laying.{longestNumber, longestPlace, Room, Laid};
 

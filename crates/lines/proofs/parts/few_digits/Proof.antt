@@ -3,7 +3,7 @@ use mathlib.Core.Path.{ap}
 use native.Mathlib.Omega.{arith}
 use lib.ListN.{length}
 use borrow.Author.Needs.{needs}
-use Rattle.lines.specs.DecimalLaws.{decimal-some, decimal-two, decimal-three, decimal-four}
+use Rattle.units.specs.DecimalLaws.{decimal-some, decimal-two, decimal-three, decimal-four}
 use Rattle.lines.specs.Laying.{laid-then, one-laid, room-after}
 use Rattle.lines.specs.Numbered.{digit-alone}
 use Rattle.lines.proofs.parts.few_digits.Statement.{statement}

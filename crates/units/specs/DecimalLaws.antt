@@ -10,8 +10,8 @@ use lib.Dec.{ltb}
 use lib.ListN.{length, length-append, List·getD-append}
 use lib.Seq.{getD-append-seam}
 use borrow.Author.Tests.{lt-ltb, le-ltb}
 use Rattle.units.specs.Places.{at}
-use Rattle.lines.specs.Decimal.{digit, spelled, decimal, twoDigits, fourDigits, readOn, valueOf}
+use Rattle.units.specs.Decimal.{digit, spelled, decimal, twoDigits, fourDigits, readOn, valueOf}
 
 low-digit : (k n : ℕ) → n < 10 → spelled k (ltb n 10) n ≡ digit n ∷ []
 unfolding spelled
