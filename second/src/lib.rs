@@ -8,6 +8,7 @@
 pub mod book;
 pub mod ending;
 pub mod entry;
+pub mod figures;
 pub mod judging;
 pub mod opening;
 pub mod refusal;
@@ -16,6 +17,7 @@ pub mod settings;
 pub mod tape;
 pub mod units;
 pub mod words;
+pub mod writer;
 
 #[cfg(test)]
 mod examples;

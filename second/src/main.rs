@@ -1,58 +1,113 @@
-//! Reads a tape and prints what the market answers to it.
+//! Reads a tape and prints what the market answers to it; writes a tape from
+//! its events in figures, and a tape once more.
 
-use std::ffi::OsString;
-use std::io::{self, BufWriter, Read, Write};
+use std::ffi::{OsStr, OsString};
+use std::fs::File;
+use std::io::{self, BufRead, BufReader, BufWriter, Read, Write};
 use std::process::ExitCode;
 
 use second::ending::Trouble;
+use second::figures::{Events, RefusedLine};
 use second::session::Session;
 use second::tape::{print_tallies, run};
+use second::writer::again;
 
-const TAPE_REFUSED: u8 = 1;
+/// The exit status after a refused tape or a refused line.
+const REFUSED: u8 = 1;
 
-/// Asks for the tallies, before the tape.
-const TALLIES: &str = "--tallies";
+const USAGE: &str =
+    "one file at most, and the option before it: second [--tallies | --write | --again] [FILE]";
+
+/// What is asked for.
+#[derive(Clone, Copy)]
+enum Task {
+    /// The lines of a tape.
+    Print,
+    /// The lines of a tape and the tallies after them.
+    PrintTallies,
+    /// The tape of a text in figures.
+    Write,
+    /// The tape once more, through the writer.
+    Again,
+}
 
 fn main() -> ExitCode {
     let arguments: Vec<OsString> = std::env::args_os().skip(1).collect();
     match answer(&arguments) {
         Ok(true) => ExitCode::SUCCESS,
-        Ok(false) => ExitCode::from(TAPE_REFUSED),
+        Ok(false) => ExitCode::from(REFUSED),
         Err(trouble) => trouble.end("second"),
     }
 }
 
-/// Whether the tallies are asked for, and the arguments after that.
-fn asked(arguments: &[OsString]) -> (bool, &[OsString]) {
-    match arguments {
-        [first, rest @ ..] if first == TALLIES => (true, rest),
-        _ => (false, arguments),
-    }
+/// The task, and the arguments after its option.
+fn asked(arguments: &[OsString]) -> (Task, &[OsString]) {
+    let first = arguments.first().and_then(|first| first.to_str());
+    let task = match first {
+        Some("--tallies") => Task::PrintTallies,
+        Some("--write") => Task::Write,
+        Some("--again") => Task::Again,
+        _ => return (Task::Print, arguments),
+    };
+    (task, &arguments[1..])
 }
 
-fn read_tape(arguments: &[OsString]) -> Result<Vec<u8>, String> {
-    match arguments {
-        [] => {
-            let mut tape = Vec::new();
-            io::stdin()
-                .read_to_end(&mut tape)
-                .map_err(|error| format!("standard input cannot be read: {error}"))?;
-            Ok(tape)
-        }
-        [file] => std::fs::read(file)
-            .map_err(|error| format!("{} cannot be read: {error}", file.to_string_lossy())),
-        _ => Err(format!(
-            "one tape at most, and {TALLIES} before it: second [{TALLIES}] [FILE]"
-        )),
-    }
-}
-
-/// Prints the lines of the tape asked for; tells whether it came to its end.
+/// Does what is asked for; tells whether nothing was refused on the way.
 fn answer(arguments: &[OsString]) -> Result<bool, Trouble> {
-    let (tallies, arguments) = asked(arguments);
-    let tape = read_tape(arguments)?;
+    let (task, arguments) = asked(arguments);
+    let source = Source::from_arguments(arguments)?;
     let mut out = BufWriter::with_capacity(1 << 16, io::stdout().lock());
-    replay(&tape, tallies, &mut out).map_err(|error| Trouble::writing("standard output", &error))
+    match task {
+        Task::Print => replay(&source.read()?, false, &mut out).map_err(unwritten),
+        Task::PrintTallies => replay(&source.read()?, true, &mut out).map_err(unwritten),
+        Task::Write => write_events(&source, &mut out),
+        Task::Again => write_again(&source.read()?, &mut out).map_err(unwritten),
+    }
+}
+
+fn unwritten(error: io::Error) -> Trouble {
+    Trouble::writing("standard output", &error)
+}
+
+/// Where the input comes from.
+enum Source<'a> {
+    StandardInput,
+    File(&'a OsStr),
+}
+
+impl<'a> Source<'a> {
+    fn from_arguments(arguments: &'a [OsString]) -> Result<Source<'a>, String> {
+        match arguments {
+            [] => Ok(Source::StandardInput),
+            [file] => Ok(Source::File(file)),
+            _ => Err(USAGE.to_string()),
+        }
+    }
+
+    fn unreadable(&self, error: io::Error) -> String {
+        match self {
+            Source::StandardInput => format!("standard input cannot be read: {error}"),
+            Source::File(file) => format!("{} cannot be read: {error}", file.to_string_lossy()),
+        }
+    }
+
+    fn open(&self) -> Result<Box<dyn BufRead>, String> {
+        match self {
+            Source::StandardInput => Ok(Box::new(io::stdin().lock())),
+            Source::File(file) => {
+                let file = File::open(file).map_err(|error| self.unreadable(error))?;
+                Ok(Box::new(BufReader::with_capacity(1 << 16, file)))
+            }
+        }
+    }
+
+    /// The whole of a tape.
+    fn read(&self) -> Result<Vec<u8>, String> {
+        let mut tape = Vec::new();
+        let read = self.open()?.read_to_end(&mut tape);
+        read.map_err(|error| self.unreadable(error))?;
+        Ok(tape)
+    }
 }
 
 /// Runs the tape, prints the tallies after it if asked to, and flushes.
@@ -62,6 +117,36 @@ fn replay(tape: &[u8], tallies: bool, out: &mut impl Write) -> io::Result<bool> 
     if tallies {
         print_tallies(&session, out)?;
     }
+    out.flush()?;
+    Ok(ended)
+}
+
+/// Writes the events of a text until it ends or a line is refused, which is
+/// told when all before it is out.
+fn write_events(source: &Source, out: &mut impl Write) -> Result<bool, Trouble> {
+    let mut events = Events::new(source.open()?);
+    let refused = loop {
+        let event = events.event().map_err(|error| source.unreadable(error))?;
+        match event {
+            Some(Ok(bytes)) => out.write_all(&bytes).map_err(unwritten)?,
+            Some(Err(refused)) => break Some(refused),
+            None => break None,
+        }
+    };
+    out.flush().map_err(unwritten)?;
+    refused.iter().for_each(tell);
+    Ok(refused.is_none())
+}
+
+fn tell(refused: &RefusedLine) {
+    let RefusedLine { refusal, line } = refused;
+    // Where standard error is closed, nobody is left to tell.
+    let _ = writeln!(io::stderr(), "write {} {line}", refusal.number());
+}
+
+/// Writes the events of a tape once more, as far as it can be read.
+fn write_again(tape: &[u8], out: &mut impl Write) -> io::Result<bool> {
+    let ended = again(tape, out)?;
     out.flush()?;
     Ok(ended)
 }

@@ -87,22 +87,24 @@ pub fn write_number(mut value: u32, tape: &mut Vec<u8>) {
 }
 
 impl Event {
-    /// Writes the event as the tape holds it.
-    pub fn write(&self, tape: &mut Vec<u8>) {
-        let mut put = |number| write_number(number, tape);
+    /// The event as its numbers, in the order of the tape.
+    pub fn numbers(&self) -> Vec<u32> {
         match self {
-            Event::Settings(numbers) => {
-                put(1);
-                numbers.iter().copied().for_each(put);
-            }
-            Event::Away { bid, offer } => [2, *bid, *offer].into_iter().for_each(put),
+            Event::Settings(values) => [&[1], values.as_slice()].concat(),
+            Event::Away { bid, offer } => vec![2, *bid, *offer],
             Event::Submit { tenant, entries } => {
                 let count = u32::try_from(entries.len()).unwrap_or(u32::MAX);
-                [3, *tenant, count].into_iter().for_each(&mut put);
-                entries.iter().flatten().copied().for_each(put);
+                [&[3, *tenant, count], entries.as_flattened()].concat()
             }
-            Event::Turn => put(4),
-            Event::Open => put(5),
+            Event::Turn => vec![4],
+            Event::Open => vec![5],
+        }
+    }
+
+    /// Writes the event as the tape holds it, whatever its numbers.
+    pub fn write(&self, tape: &mut Vec<u8>) {
+        for number in self.numbers() {
+            write_number(number, tape);
         }
     }
 }

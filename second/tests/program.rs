@@ -1,33 +1,12 @@
 //! The programs as they are started: input, output and exit status.
 
+mod started;
+
 use std::fs;
-use std::io::{pipe, PipeWriter, Read, Write};
+use std::io::{pipe, PipeWriter, Read};
 use std::process::{Command, Output, Stdio};
 
-const SECOND: &str = env!("CARGO_BIN_EXE_second");
-const TAPES: &str = env!("CARGO_BIN_EXE_tapes");
-
-/// Where the stored tapes lie, and one with more lines than a pipe holds.
-const STORED: &str = concat!(env!("CARGO_MANIFEST_DIR"), "/../tests/tapes");
-const LONG: &str = concat!(
-    env!("CARGO_MANIFEST_DIR"),
-    "/../tests/tapes/long-mixed-day.tape"
-);
-
-fn start(program: &str, arguments: &[&str], input: &[u8]) -> Output {
-    let mut program = Command::new(program)
-        .args(arguments)
-        .stdin(Stdio::piped())
-        .stdout(Stdio::piped())
-        .stderr(Stdio::piped())
-        .spawn()
-        .expect("the program starts");
-    let mut pipe = program.stdin.take().expect("a piped input");
-    // A program that reads a file may have closed its input before.
-    let _ = pipe.write_all(input);
-    drop(pipe);
-    program.wait_with_output().expect("the program ends")
-}
+use started::{start, LONG, SECOND, STORED, TAPES};
 
 #[test]
 fn a_whole_tape_ends_with_status_0() {
@@ -226,17 +205,23 @@ fn start_into_closed_pipe(program: &str, arguments: &[&str]) -> Output {
 #[test]
 fn a_pipe_closed_early_is_no_complaint_in_any_mode() {
     let words = format!("{STORED}/worked-example.words");
-    let starts: [(&str, &[&str]); 11] = [
+    let text = concat!(env!("CARGO_TARGET_TMPDIR"), "/closed-early.figures");
+    fs::write(text, "4\n".repeat(100_000)).expect("a text in figures");
+    let starts: [(&str, &[&str]); 15] = [
         (SECOND, &[]),
         (SECOND, &[LONG]),
         (SECOND, &["--tallies"]),
         (SECOND, &["--tallies", LONG]),
+        (SECOND, &["--write", text]),
+        (SECOND, &["--again", LONG]),
         (TAPES, &["--help"]),
         (TAPES, &["--seed", "1", "--events", "50000"]),
         (TAPES, &["--report", LONG]),
         (TAPES, &["--show", LONG]),
         (TAPES, &["--show", "--places", LONG]),
         (TAPES, &["--make", &words]),
+        (TAPES, &["--figures-of", LONG]),
+        (TAPES, &["--figures-report", text]),
         (TAPES, &["--compare", STORED, STORED]),
     ];
     for (program, arguments) in starts {

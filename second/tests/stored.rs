@@ -1,9 +1,12 @@
-//! The stored tapes, in words and back.
+//! The stored tapes, in words and in figures and back, and written again.
 
 use std::fs;
 use std::path::{Path, PathBuf};
 
+use second::figures::{show, Events};
+use second::tape::Reader;
 use second::words::{make, show_places};
+use second::writer::again;
 
 /// The stored tapes.
 fn tapes() -> Vec<PathBuf> {
@@ -46,5 +49,50 @@ fn every_place_is_the_count_of_the_bytes_before() {
             assert!(line.ends_with(&remark), "{}: {line}", file.display());
             place += make(line).expect("the words of a line").len();
         }
+    }
+}
+
+/// How many bytes of a tape are whole events, and whether these are all.
+fn front(tape: &[u8]) -> (usize, bool) {
+    let mut reader = Reader::new(tape);
+    loop {
+        let place = reader.place();
+        match reader.event() {
+            Ok(Some(_)) => {}
+            Ok(None) => return (place, true),
+            Err(_) => return (place, false),
+        }
+    }
+}
+
+#[test]
+fn every_stored_tape_is_written_again_as_far_as_it_is_read() {
+    let mut refused = 0;
+    for file in tapes() {
+        let tape = fs::read(&file).expect("a stored tape");
+        let (length, whole) = front(&tape);
+        let mut out = Vec::new();
+        let ended = again(&tape, &mut out).expect("memory");
+        assert_eq!(ended, whole, "{}", file.display());
+        assert_eq!(out, tape[..length], "{}", file.display());
+        assert_eq!(whole, length == tape.len(), "{}", file.display());
+        refused += usize::from(!whole);
+    }
+    assert!(refused > 0, "no stored tape is refused");
+}
+
+#[test]
+fn every_stored_tape_is_shown_in_figures_and_written_again() {
+    for file in tapes() {
+        let tape = fs::read(&file).expect("a stored tape");
+        let (length, _) = front(&tape);
+        let text = show(&tape);
+        let mut events = Events::new(text.as_bytes());
+        let mut written = Vec::new();
+        while let Some(event) = events.event().expect("memory") {
+            written
+                .extend(event.unwrap_or_else(|refused| panic!("{}: {refused:?}", file.display())));
+        }
+        assert_eq!(written, tape[..length], "{}", file.display());
     }
 }

@@ -66,6 +66,8 @@ use Rattle.units.proofs.grid.Grid.step.Reads as units-step
 use Rattle.units.proofs.grid.Grid.on.Reads as units-on
 use Rattle.numeral.proofs.read.Reads as number-read
 use Rattle.numeral.proofs.refusal.Reads as number-refusal
+use Rattle.numeral.proofs.writing.length.Reads as number-length
+use Rattle.numeral.proofs.writing.write.Reads as number-write
 use Rattle.lines.proofs.line.set_line.Reads as lines-set-line
 use Rattle.lines.proofs.line.away_line.Reads as lines-away-line
 use Rattle.lines.proofs.line.submit_line.Reads as lines-submit-line
@@ -80,6 +82,14 @@ use Rattle.lines.proofs.line.tally_line.Reads as lines-tally-line
 use Rattle.lines.proofs.gone.gone.Reads as lines-gone
 use Rattle.lines.proofs.gone.next_gone.Reads as lines-next-gone
 use Rattle.tape.proofs.events.event.Reads as tape-event
+use Rattle.tape.proofs.one.one_event.Reads as tape-one-event
+use Rattle.tape.proofs.numbers.numbers_of.Reads as tape-numbers-of
+use Rattle.tape.proofs.numbers.entries_in.Reads as tape-entries-in
+use Rattle.writer.proofs.write.Reads as writer-write
+use Rattle.writer.proofs.rewriting.rewrite.Reads as writer-rewrite
+use Rattle.figures.proofs.Place.new.Reads as figures-new
+use Rattle.figures.proofs.inscribe.Reads as figures-inscribe
+use Rattle.figures.proofs.refusal.refusal_line.Reads as figures-refusal-line
 use Rattle.rows.proofs.row.lesser.Reads as rows-lesser
 use Rattle.rows.proofs.row.lesser_wide.Reads as rows-lesser-wide
 use Rattle.rows.proofs.row.greater.Reads as rows-greater
@@ -147,6 +157,8 @@ use Rattle.session.proofs.away.away.Reads as session-away
 use Rattle.session.proofs.reading.tally_of.Reads as session-tally-of
 use Rattle.replay.proofs.tallying.tally_lines.Reads as replay-tally-lines
 use Rattle.window.proofs.is_short.Reads as window-is-short
+use Rattle.window.proofs.program.tell.Reads as window-tell
+use Rattle.window.proofs.program.status_after.Reads as window-status-after
 use Rattle.playing.proofs.play.Reads as playing-play
 
 -- the result is the same
@@ -254,11 +266,55 @@ one-number-read κs a z z′ e e′ = same
 pub one-number-refusal : OneResult number-refusal.Post
 one-number-refusal κs a z z′ e e′ = same
 
+pub one-number-length : OneResult number-length.Post
+one-number-length κs a z z′ e e′ = same
+
+pub one-number-write : OneOutcome number-write.Post (λ e. first (e .1))
+one-number-write κs a z z′ e e′ p q = (same (p .1) (q .1), alone (p .0) (q .0))
+
 -- ---- tape
 
 -- the numbers of a bulk
 pub one-tape-event : OneOutcome tape-event.Post (λ e. first (e .1 .1))
 one-tape-event κs a z z′ e e′ p q = (same (p .0) (q .0), alone (p .1) (q .1))
+
+pub one-tape-one-event : OneResult tape-one-event.Post
+one-tape-one-event κs a z z′ e e′ = same
+
+-- the numbers of an event
+pub one-tape-numbers-of : OneOutcome tape-numbers-of.Post (λ e. first (e .1 .1))
+one-tape-numbers-of κs a z z′ e e′ p q = (same (p .1) (q .1), alone (p .0) (q .0))
+
+pub one-tape-entries-in : OneResult tape-entries-in.Post
+one-tape-entries-in κs a z z′ e e′ = same
+
+-- ---- writer
+
+-- the bytes of an event
+pub one-writer-write : OneOutcome writer-write.Post (λ e. first (e .1))
+one-writer-write κs a z z′ e e′ p q = (same (p .0) (q .0), alone (p .1 .1) (q .1 .1))
+
+pub one-writer-rewrite : OneOutcome writer-rewrite.Post (λ e. first (e .1 .1))
+one-writer-rewrite κs a z z′ e e′ p q = (same (p .0) (q .0), alone (p .1) (q .1))
+
+-- ---- figures
+
+pub one-figures-new : OneResult figures-new.Post
+one-figures-new κs a z z′ e e′ = same
+
+-- the numbers of a line, and the output
+pub one-figures-inscribe : OneOutcome figures-inscribe.Post (λ e. e .1 .1 .1 .1 .0 .now ∷ first (e .1 .1 .1 .1 .1))
+one-figures-inscribe κs a z z′ e e′ p q =
+    let place = same (p .place) (q .place) in
+    let from = same (p .from) (q .from) in
+    let at = same (p .end) (q .end) in
+    let next = same (p .next) (q .next) in
+    let numbers = same (p .numbers-are) (q .numbers-are) in
+    let out = same (p .laid) (q .laid) in
+    (λ i. record { place = place i; from = from i; at = at i; next = next i }, λ i. numbers i ∷ out i ∷ [])
+
+pub one-figures-refusal-line : OneOutcome figures-refusal-line.Post (λ e. first (e .1 .1))
+one-figures-refusal-line κs a z z′ e e′ p q = (same (p .after) (q .after), alone (p .laid) (q .laid))
 
 -- ---- lines
 
@@ -725,9 +781,16 @@ one-replay-tally-lines κs a z z′ e e′ = laid
 
 -- ---- window
 
--- `refill` and `write_out` have none: what a read gives and whether a write is taken come from the file
+-- `refill`, `write_out`, `flush` and `opened` have none: what a read gives, whether a write is taken and which file is
+-- opened come from the file
 pub one-window-is-short : OneResult window-is-short.Post
 one-window-is-short κs a z z′ e e′ = same
+
+pub one-window-tell : OneResult window-tell.Post
+one-window-tell κs a z z′ e e′ p q = refl
+
+pub one-window-status-after : OneResult window-status-after.Post
+one-window-status-after κs a z z′ e e′ = same
 
 -- ---- playing
 

@@ -6,5 +6,6 @@ pub mod Encode
 pub mod Steps
 pub mod Cases
 pub mod Laws
+pub mod Writing
 pub mod Window
 pub mod Examples

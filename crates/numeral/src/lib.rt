@@ -1,4 +1,7 @@
-// The tape's number reader: one to five bytes, seven bits each, low group first, the top bit set on all but the last.
+// The tape's numbers, read and written: one to five bytes, seven bits each, low group first, the top bit set on all but
+// the last.
+pub mod writing;
+
 ghost use mathlib.Core.Path.{_≡_};
 ghost use lib.ListN.{drop};
 ghost use Rattle.numeral.specs.Number.{numberIn, numberAt, refusalOf};

@@ -1,11 +1,12 @@
 -- The program's loop: each turn plays what is at hand, and then reads the tape, writes out what is printed, or stops.
-use mathlib.Core.Path.{_≡_, refl, sym, ap, subst, _∙_}
+use mathlib.Core.Path.{_≡_, refl, sym, subst, _∙_}
 use mathlib.Core.Bool.{Bool, true, false, true≢false}
 use mathlib.Core.List.{List, [], _∷_, _++_, append-assoc}
 use Prim.Native.Nat.{ℕ, _+_, _*_, _-_, _≤_, _<_}
 use native.Mathlib.Omega.{arith}
-use lib.ListN.{length, take, drop, replicate, length-append, length-take, length-replicate, drop-of-length-le}
-use lib.Seq.{length-take-le, sets-eq, take-at}
+use lib.ListN.{length, take, drop, replicate, length-take, length-replicate, drop-of-length-le}
+use lib.Seq.{length-take-le}
+use Rattle.units.specs.Places.{sets-behind}
 use Rattle.rows.specs.Rows.{rows}
 use Rattle.book.specs.Book.{emptyBook}
 use Rattle.lines.specs.Laying.{output, Laid}
@@ -17,17 +18,13 @@ use Rattle.session.specs.Settings.{newSession}
 use Rattle.session.specs.Sound.{Sound}
 use Rattle.replay.specs.Stepping.{going}
 use Rattle.window.specs.declared.Filled.{Filled}
-use Rattle.window.specs.Window.{Refilled}
+use Rattle.window.specs.Window.{windowLong, Refilled}
 use Rattle.window.specs.WindowLaws.{read-behind}
 use Rattle.playing.specs.declared.Next.the-variants.{Read, Write, Stop}
 use Rattle.playing.specs.declared.Played.{Played}
 use Rattle.playing.specs.Playing.{playOf, CanPlay, PlaysTo}
 use Rattle.playing.specs.Running.{Standing, atStart, playFrom, played, filled, emptied, Run, reads, meets-end, writes}
 use Rattle.playing.specs.RunningLaws.{leaves-from}
-
--- the bytes of the window
-abbrev pub windowLong : ℕ
-windowLong = 65536
 
 -- a place of the tape is below this, whatever the turns that are left read
 abbrev pub farthest : ℕ
@@ -102,15 +99,9 @@ rehearsal-starts {s} {window} {out} e sound long out-long few = record {
   came = λ _. came-from-start window out e;
 }
 
-pub fewer : (turns : ℕ) → 0 < turns → turns - 1 < turns
-fewer turns h = omega arith
-
 -- bytes laid behind those that are printed
 laid-behind : {was lent bytes : List ℕ} {at most r : ℕ} → length was ≡ output → Laid was at bytes most lent r → r ≤ output → take r lent ≡ take at was ++ bytes
-laid-behind {was} {lent} {bytes} {at} {most} {r} long l fits =
-    rw (l .stored, l .end, sets-eq bytes was at (omega (arith, l .end)))
-    (take-at (take at was ++ bytes) (drop (at + length bytes) was) (at + length bytes)
-    (length-append (take at was) bytes ∙ ap (λ (n : ℕ). n + length bytes) (length-take-le at was (omega (arith, l .end)))))
+laid-behind {was} {lent} {bytes} {at} long l fits = rw (l .stored, l .end) (sets-behind bytes was at (omega (arith, l .end)))
 
 module _ {m : Market} {given window out : List ℕ} {at from to base : ℕ} {more : Bool} {status turns : ℕ} (r : Rehearsing m given window out at from to base more status turns) where
   -- the bytes at hand

@@ -2,9 +2,8 @@
 //
 // The tape comes from the file that the first argument names, or from standard input. `--tallies` before the name asks
 // for the tallies, which are printed after every other line. The tape is read through a window of 64 KiB and printed
-// through an output of the same size, so a tape of any length takes the same memory. A program has no exit status; how
-// the replay ended is written as one byte to file descriptor 3, for the command above: `0` the tape ended, `1` it was
-// refused, `2` a file could not be opened, read or written.
+// through an output of the same size, so a tape of any length takes the same memory. How the replay ended is told by one
+// byte: `0` the tape ended, `1` it was refused, `2` a file could not be opened, read or written.
 use entry::BULK_NUMBERS;
 use lanes::ALL_ENTRIES;
 use lines::Output;
@@ -13,37 +12,16 @@ use playing::play;
 use replay::stepping::GOING;
 use replay::tallying::tally_lines;
 use session::Session;
+use window::program::FAILED;
+use window::program::TURNS;
+use window::program::flush;
+use window::program::opened;
+use window::program::status_after;
+use window::program::tell;
 use window::refill;
-use window::writing::write_out;
 ghost use mathlib.Core.Path.{_≡_};
-ghost use Prim.Native.Nat.{_≤_};
 ghost use lib.ListN.{length};
 ghost use Rattle.lines.specs.Laying.{output};
-
-// Where the status goes.
-const STATUS_FILENO: i32 = 3;
-
-// A read or a write failed.
-const FAILED: u8 = b'2';
-
-// More turns of the loop than any run takes: each plays what is at hand, then reads or writes once.
-const TURNS: u64 = 140737488355328;
-
-fn tell(status: u8) {
-    write_out(STATUS_FILENO, &[status]);
-}
-
-// How the replay stands after a read or a write.
-fn status_after(failed: bool) -> u8 {
-    if failed { FAILED } else { GOING }
-}
-
-// Writes out what is printed.
-fn flush(out: &[u8], at: usize) -> u8
-    requires { ⌜ at ≤ length (now out) ⌝ }
-{
-    status_after(!write_out(libc::STDOUT_FILENO, &out[..at]))
-}
 
 fn same(a: &[u8], b: &[u8]) -> bool {
     if a.len() != b.len() {
@@ -81,20 +59,7 @@ fn print_tallies(s: Session, out: &mut Output) -> u8
 // The tape's file, or a negative number where it cannot be opened.
 fn tape_file() -> i32 {
     let named: usize = if tallies_asked() { 2 } else { 1 };
-    if os::arg_count() <= named {
-        return libc::STDIN_FILENO;
-    }
-    let mut path = io::buffer();
-    let length = os::arg(named, &mut path);
-    if os::errno() != 0 {
-        os::fail(b"tape");
-        return -1;
-    }
-    let fd = os::open_read(&path[..length]);
-    if fd < 0 {
-        os::fail(&path[..length]);
-    }
-    fd
+    opened(named, b"tape")
 }
 
 fn main() {

@@ -7,7 +7,8 @@ use lib.ListN.{length, getD, drop, length-append}
 use Rattle.numeral.specs.Number.{numberAt}
 use Rattle.numeral.specs.Encode.{encode}
 use Rattle.numeral.specs.Laws.{Bytes, canonical, read-placed}
-use Rattle.numeral.specs.Window.{answer, is-read, is-refused}
+use Rattle.numeral.specs.Writing.{bytes-some}
+use Rattle.numeral.specs.Window.{answer, is-read, is-refused, missing, read-fits}
 use Rattle.tape.specs.declared.Event.{Event}
 use Rattle.tape.specs.declared.Reading.the-variants.{Read}
 use Rattle.tape.specs.Tape.{Form, whole, bad, more, numbers, event, reading, numbersAt, eventAt, entriesOf, entriesAt}
@@ -113,3 +114,42 @@ pub leads-read :
 leads-read front vs rest e fit l =
     let i = back-in event front vs rest (length front) e fit l in
     (event-of-form (front ++ (encodeAll vs ++ rest)) (length front) e _ (i .0), ap entriesOf (i .1))
+
+-- and numbers whose encoding is read whole, to its end, lead to what is read
+whole-in :
+    (form : Form) (front vs : List ℕ) (last : ℕ) (e : Event) (end : ℕ) → Fit vs → end ≡ length front + length (encodeAll vs) →
+    reading form (front ++ encodeAll vs) last (length front) ≡ Read e end → Leads form vs e
+unfolding reading encodeAll
+whole-in (whole e′) front [] last e end fit h q = cc
+whole-in (whole e′) front (v ∷ vs) last e end fit h q =
+    let here : length front ≡ end = cc in
+    absurd (omega (arith, length-append (encode v) (encodeAll vs), bytes-some 4 v))
+whole-in (bad code) front vs last e end fit h q = absurd (refused-read code last e end q)
+whole-in (more f) front [] last e end fit h q =
+    absurd (refused-read 30 (length front) e end (rw (missing (front ++ []) (length front) (omega (arith, length-append front []))) at q))
+whole-in (more f) front (v ∷ vs) last e end fit h q =
+    let tape : front ++ (encode v ++ encodeAll vs) ≡ front ++ encode v ++ encodeAll vs = sym (append-assoc front (encode v) (encodeAll vs)) in
+    let one = read-placed front v (encodeAll vs) (fit 0) in
+    let long = length-append front (encode v) in
+    whole-in (f v) (front ++ encode v) vs (length front) e end (λ n. fit (suc n)) (omega (arith, long, length-append (encode v) (encodeAll vs))) (rw (tape, one, ← long) at q)
+
+pub read-whole : (vs : List ℕ) (e : Event) → Fit vs → eventAt (encodeAll vs) 0 ≡ Read e (length (encodeAll vs)) → Leads event vs e
+read-whole vs e fit q = whole-in event [] vs 0 e (length (encodeAll vs)) fit (omega arith) (of-form (encodeAll vs) 0 e _ q)
+
+-- what is read off a tape fits
+fit-more : (v : ℕ) (vs : List ℕ) → v < 2 ^ 32 → Fit vs → Fit (v ∷ vs)
+fit-more v vs h fit zero = h
+fit-more v vs h fit (suc i) = fit i
+
+fit-in : (form : Form) (s : List ℕ) (at : ℕ) → Fit (numbersAt form s at)
+unfolding numbersAt
+fit-in (whole e) s at i = omega arith
+fit-in (bad code) s at i = omega arith
+fit-in (more f) s at i =
+    elim (answer (numberAt s at)) [
+      | is-read v next p ↦ rw p (fit-more v (numbersAt (f v) s next) (read-fits s at v next p) (fit-in (f v) s next) i)
+      | is-refused code p ↦ rw p (omega arith)
+    ]
+
+pub read-fit : (s : List ℕ) (at : ℕ) → Fit (numbersAt event s at)
+read-fit s at = fit-in event s at

@@ -8,6 +8,9 @@ pub mod Depth
 pub mod TapeLaws
 pub mod Leads
 pub mod Spelling
+pub mod Storing
+pub mod One
+pub mod OneLaws
 pub mod Refusals
 pub mod Whole
 pub mod WholeLaws

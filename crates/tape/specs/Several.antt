@@ -6,7 +6,7 @@ use native.Mathlib.Nat.{lt-suc-self}
 use native.Mathlib.Numerals.{add-one}
 use native.Mathlib.Omega.{arith}
 use lib.ListN.{length, take, drop, set, take-append-drop, drop-of-length-le}
-use lib.Seq.{drop-cons, take-suc-set, drop-set-lt, take-all, append-snoc}
+use lib.Seq.{sets, drop-cons, take-suc-set, drop-set-lt, take-all, append-snoc}
 use Rattle.numeral.specs.declared.Number.{Number}
 use Rattle.numeral.specs.declared.Number.the-variants as number
 use Rattle.numeral.specs.Number.{numberAt, refusalOf}
@@ -68,6 +68,21 @@ unfolding stored
 stored-front [] out h = refl
 stored-front (v ∷ vs) [] h = absurd (omega arith)
 stored-front (v ∷ vs) (x ∷ out) h = ap (λ (l : List ℕ). v ∷ l) (stored-front vs out (omega arith))
+
+-- it is a run of stores from the first place on
+pub stored-sets : (vs out : List ℕ) → sets out 0 vs ≡ stored vs out
+unfolding stored
+stored-sets [] out = refl
+stored-sets (v ∷ vs) [] = nowhere vs 1
+  where
+    nowhere : (ws : List ℕ) (i : ℕ) → sets [] i ws ≡ []
+    nowhere [] i = refl
+    nowhere (w ∷ ws) i = nowhere ws (suc i)
+stored-sets (v ∷ vs) (x ∷ out) = behind vs out 0 ∙ ap (λ (l : List ℕ). v ∷ l) (stored-sets vs out)
+  where
+    behind : (ws l : List ℕ) (i : ℕ) → sets (v ∷ l) (suc i) ws ≡ v ∷ sets l i ws
+    behind [] l i = refl
+    behind (w ∷ ws) l i = behind ws (set l i w) (suc i)
 
 -- the lent memory where i of n numbers are stored, and the next is at `at`
 module _ (n i : ℕ) (s : List ℕ) (at : ℕ) (out : List ℕ) where

@@ -50,7 +50,7 @@ lead-entries tenant count vs e l = go (from1to bulk count) refl
     go false t = absurd (subst (λ (form : Form). Leads form vs e) (entries-bad tenant count t) l)
 
 -- the numbers that make an event lead to it
-spells-leads : (vs : List ℕ) (e : Event) → Spells vs e → Leads event vs e
+pub spells-leads : (vs : List ℕ) (e : Event) → Spells vs e → Leads event vs e
 unfolding event formOf formIn settings numbers away submit
 spells-leads _ _ (spells-settings v h) = several-leads settingsNumbers (λ w. Settings (settingsOf w)) v h
 spells-leads _ _ (spells-away bid offer) = refl
@@ -93,7 +93,7 @@ kinds-spell =
     also whole-spells 5 Open spells-open
     also all
 
-leads-spells : (vs : List ℕ) (e : Event) → Leads event vs e → Spells vs e
+pub leads-spells : (vs : List ℕ) (e : Event) → Leads event vs e → Spells vs e
 unfolding event formOf
 leads-spells [] e l = absurd l
 leads-spells (n ∷ vs) e l = each-form FormSpells kinds n kinds-spell (λ vs e l. absurd l) vs e l
@@ -113,6 +113,14 @@ numbersOf (Away q) v = 2 ∷ q .bid .0 ∷ q .offer .0 ∷ []
 numbersOf (Submit tenant count) v = 3 ∷ tenant ∷ count ∷ v
 numbersOf Turn v = 4 ∷ []
 numbersOf Open v = 5 ∷ []
+
+-- how many numbers of entries an event has
+abbrev pub entriesIn : Event → ℕ
+entriesIn (Settings x) = 0
+entriesIn (Away q) = 0
+entriesIn (Submit tenant count) = entryNumbers * count
+entriesIn Turn = 0
+entriesIn Open = 0
 
 -- no others make it
 pub one-spelling : (vs : List ℕ) (e : Event) → Spells vs e → vs ≡ numbersOf e (entriesOf vs)

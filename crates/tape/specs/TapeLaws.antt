@@ -38,6 +38,20 @@ pub past-tape : (s : List ℕ) (at : ℕ) → length s ≤ at → eventAt s at �
 unfolding eventAt
 past-tape s at h = rw (le-ltb at (length s) h)
 
+-- and nowhere else is it at its end
+never-end : (form : Form) (s : List ℕ) (last at : ℕ) → reading form s last at ≡ End → ⊥
+unfolding reading
+never-end (whole e) s last at q = end-read e at (sym q)
+never-end (bad code) s last at q = end-refused code last (sym q)
+never-end (more f) s last at q =
+    elim (answer (numberAt s at)) [
+      | is-read v next p ↦ never-end (f v) s at next (rw p at q)
+      | is-refused code p ↦ end-refused code at (sym (rw p at q))
+    ]
+
+pub tape-ends : (s : List ℕ) (at : ℕ) → eventAt s at ≡ End → length s ≤ at
+tape-ends s at q = ⊎-elim (λ h. absurd (never-end event s at at (sym (on-tape s at h) ∙ q))) (λ h. h) (below at (length s))
+
 -- an event is read of the form, on the tape
 pub of-form : (s : List ℕ) (at : ℕ) (e : Event) (end : ℕ) → eventAt s at ≡ Read e end → reading event s at at ≡ Read e end
 of-form s at e end q =

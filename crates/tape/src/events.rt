@@ -22,21 +22,21 @@ pub const NO_SUCH_EVENT: u32 = 33;
 pub const NO_SUCH_COUNT: u32 = 34;
 
 // The event numbers.
-const SETTINGS: u32 = 1;
+pub(crate) const SETTINGS: u32 = 1;
 
-const AWAY: u32 = 2;
+pub(crate) const AWAY: u32 = 2;
 
-const SUBMIT: u32 = 3;
+pub(crate) const SUBMIT: u32 = 3;
 
-const TURN: u32 = 4;
+pub(crate) const TURN: u32 = 4;
 
-const OPEN: u32 = 5;
+pub(crate) const OPEN: u32 = 5;
 
 // The numbers of the settings.
-const SETTINGS_NUMBERS: usize = 11;
+pub(crate) const SETTINGS_NUMBERS: usize = 11;
 
 // The numbers of an away quote.
-const AWAY_NUMBERS: usize = 2;
+pub(crate) const AWAY_NUMBERS: usize = 2;
 
 // The event that several numbers make, or the refusal of the one that is bad.
 fn made(all: Several, event: Event) -> Reading

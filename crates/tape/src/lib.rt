@@ -6,11 +6,13 @@ use entry::Settings;
 use numeral::GROUPS;
 
 pub mod events;
+pub mod numbers;
+pub mod one;
 mod several;
 
 // The numbers of the longest event, a submit of the most entries: its event number, its tenant and its count, and those
 // of its entries.
-const MOST_NUMBERS: usize = 3 + BULK_NUMBERS;
+pub const MOST_NUMBERS: usize = 3 + BULK_NUMBERS;
 
 // The bytes of the longest event.
 pub const MOST_BYTES: usize = GROUPS as usize * MOST_NUMBERS;

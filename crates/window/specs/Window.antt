@@ -7,6 +7,10 @@ use lib.Dec.{ltb}
 use lib.ListN.{length, take, drop}
 use Rattle.window.specs.declared.Filled.{Filled}
 
+-- the bytes of the window that a program holds, and of its output
+abbrev pub windowLong : ℕ
+windowLong = 65536
+
 -- fewer bytes are at hand than wanted although the file may go on
 unfoldable pub isShort : ℕ → ℕ → Bool → ℕ → Bool
 isShort from to more wanted = more && ltb (to - from) wanted

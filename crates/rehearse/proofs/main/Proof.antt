@@ -7,7 +7,8 @@ use borrow.Author.Needs.{needs}
 use borrow.Author.Tests.{eqb-true}
 use Rattle.book.specs.Book.{bookOf}
 use Rattle.session.specs.Market.{marketOf}
-use Rattle.rehearse.specs.Rehearsing.{Rehearsing, rehearsal-starts, fewer, at-hand, can-play, fits-window, fits-output, turn-reads, turn-writes, turn-stops}
+use Rattle.window.specs.Program.{fewer}
+use Rattle.rehearse.specs.Rehearsing.{Rehearsing, rehearsal-starts, at-hand, can-play, fits-window, fits-output, turn-reads, turn-writes, turn-stops}
 use Rattle.rehearse.proofs.main.Statement.{statement}
 use Rattle.rehearse.proofs.main.Tie as tie
 

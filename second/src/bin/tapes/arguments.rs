@@ -3,6 +3,7 @@
 use std::ffi::{OsStr, OsString};
 use std::path::PathBuf;
 
+use crate::figures::ways;
 use crate::flavours::{named, Flavour, FLAVOURS};
 
 /// What is asked for.
@@ -21,6 +22,11 @@ pub enum Task {
         events: Option<u64>,
         dir: PathBuf,
     },
+    Figures {
+        count: u64,
+        seed: u64,
+        dir: PathBuf,
+    },
     Cuts {
         file: PathBuf,
         dir: PathBuf,
@@ -28,11 +34,18 @@ pub enum Task {
     Report {
         files: Vec<PathBuf>,
     },
+    FiguresReport {
+        files: Vec<PathBuf>,
+    },
     Show {
         file: Option<PathBuf>,
         places: bool,
     },
     Make {
+        file: Option<PathBuf>,
+        out: Option<PathBuf>,
+    },
+    FiguresOf {
         file: Option<PathBuf>,
         out: Option<PathBuf>,
     },
@@ -60,7 +73,18 @@ tapes --show [FILE] [--places]
 tapes --make [FILE] [--out FILE]
     turns such words into a tape; `#` starts a remark, and `turn times N`
     stands for N turns; wrong words are told with their line
-    (--show and --make read standard input without FILE or with `-`)
+tapes --figures-of [FILE] [--out FILE]
+    prints a tape in figures, one event a line, as far as it can be read: the
+    text of which `second --write` makes a tape
+    (--show, --make and --figures-of read standard input without FILE or
+    with `-`)
+tapes --figures COUNT --seed S --dir DIR
+    writes COUNT texts in figures, right, wrong and just beside right, all ways
+    in turn, named by way and seed; ROUND texts are one round, and a second
+    round has each wrong line last that was in between, and the other way about
+tapes --figures-report FILES..
+    reads texts in figures and prints how often each outcome is reached, with a
+    line `missing: NAME` and exit status 1 as --report has them
 tapes --compare DIR DIR
     compares the files of two folders by name and prints the first line that
     differs of each; the last line is `N passed, M failed`, and the exit
@@ -69,7 +93,8 @@ tapes --compare DIR DIR
 
 /// The text of --help.
 pub fn help() -> String {
-    let mut text = format!("{USAGE}\nflavours:\n");
+    let usage = USAGE.replace("ROUND", &ways().len().to_string());
+    let mut text = format!("{usage}\nflavours:\n");
     for flavour in &FLAVOURS {
         text.push_str(&format!("    {:<14}{}\n", flavour.name, flavour.about));
     }
@@ -85,13 +110,22 @@ struct Given<'a> {
     files: Vec<PathBuf>,
 }
 
-const MODES: [&str; 5] = ["--cuts", "--report", "--show", "--make", "--compare"];
-const OPTIONS: [&str; 6] = [
+const MODES: [&str; 7] = [
+    "--cuts",
+    "--report",
+    "--figures-report",
+    "--show",
+    "--make",
+    "--figures-of",
+    "--compare",
+];
+const OPTIONS: [&str; 7] = [
     "--seed",
     "--events",
     "--flavour",
     "--out",
     "--many",
+    "--figures",
     "--dir",
 ];
 
@@ -184,6 +218,11 @@ pub fn parse(arguments: &[OsString]) -> Result<Task, String> {
             dir: given.dir()?,
         }),
         Some("--report") => Ok(Task::Report { files: given.files }),
+        Some("--figures-report") => Ok(Task::FiguresReport { files: given.files }),
+        Some("--figures-of") => Ok(Task::FiguresOf {
+            file: given.input()?,
+            out: given.path("--out"),
+        }),
         Some("--compare") => match given.files.as_slice() {
             [one, other] => Ok(Task::Compare {
                 one: one.clone(),
@@ -203,6 +242,10 @@ fn parse_writing(given: &Given) -> Result<Task, String> {
     let seed = given
         .number("--seed")?
         .ok_or("--seed is due; see --help".to_string())?;
+    if let Some(count) = given.number("--figures")? {
+        let dir = given.dir()?;
+        return Ok(Task::Figures { count, seed, dir });
+    }
     let events = given.number("--events")?;
     let flavour = given.flavour()?;
     match given.number("--many")? {

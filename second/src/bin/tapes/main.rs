@@ -1,8 +1,10 @@
-//! Makes tapes, tells what they reach, and turns them into words and back.
+//! Makes tapes and texts in figures, tells what they reach, and turns tapes into
+//! words and back.
 
 mod arguments;
 mod compare;
 mod dice;
+mod figures;
 mod flavours;
 mod pen;
 mod purpose;
@@ -47,10 +49,13 @@ fn run(task: Task) -> Result<bool, Trouble> {
             events,
             dir,
         } => write_many(count, seed, only, events, &dir)?,
+        Task::Figures { count, seed, dir } => write_figures(count, seed, &dir)?,
         Task::Cuts { file, dir } => write_cuts(&file, &dir)?,
         Task::Show { file, places } => show_tape(file.as_deref(), places)?,
         Task::Make { file, out } => make_tape(file.as_deref(), out.as_deref())?,
+        Task::FiguresOf { file, out } => show_figures(file.as_deref(), out.as_deref())?,
         Task::Report { files } => return report_on(&files),
+        Task::FiguresReport { files } => return report_on_figures(&files),
         Task::Compare { one, other } => return compare_folders(&one, &other),
     }
     Ok(true)
@@ -84,6 +89,16 @@ fn write_many(
     Ok(())
 }
 
+fn write_figures(count: u64, seed: u64, dir: &Path) -> Result<(), Trouble> {
+    make_dir(dir)?;
+    let ways = figures::ways();
+    for (way, seed) in figures::round(&ways, count, seed) {
+        let file = dir.join(format!("{}-{seed}.figures", way.name));
+        put(Some(&file), &way.text(seed).bytes)?;
+    }
+    Ok(())
+}
+
 /// Every truncation of a tape, named by its length.
 fn write_cuts(file: &Path, dir: &Path) -> Result<(), Trouble> {
     make_dir(dir)?;
@@ -111,10 +126,24 @@ fn make_tape(file: Option<&Path>, out: Option<&Path>) -> Result<(), Trouble> {
     put(out, &words::make(text)?)
 }
 
+fn show_figures(file: Option<&Path>, out: Option<&Path>) -> Result<(), Trouble> {
+    put(out, second::figures::show(&read(file)?).as_bytes())
+}
+
 fn report_on(files: &[PathBuf]) -> Result<bool, Trouble> {
     let mut report = report::Report::default();
     for file in files {
         report.replay(&read(Some(file))?);
+    }
+    let (table, complete) = report.table();
+    put(None, table.as_bytes())?;
+    Ok(complete)
+}
+
+fn report_on_figures(files: &[PathBuf]) -> Result<bool, Trouble> {
+    let mut report = report::figures::Report::default();
+    for file in files {
+        report.read(&read(Some(file))?);
     }
     let (table, complete) = report.table();
     put(None, table.as_bytes())?;

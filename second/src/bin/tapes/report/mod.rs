@@ -5,6 +5,7 @@
 
 mod calls;
 mod damage;
+pub mod figures;
 mod openings;
 mod turns;
 
@@ -33,6 +34,31 @@ impl Counts {
 
     fn of(&self, name: &str) -> u64 {
         self.reached.get(name).copied().unwrap_or(0)
+    }
+
+    /// The table of the outcomes named, the last line starting with what was
+    /// `read`; and whether nothing is missing.
+    fn table(&self, names: &[String], read: &str) -> (String, bool) {
+        let mut table = String::new();
+        for name in names {
+            // Writing to a string never fails.
+            let _ = writeln!(table, "{:>9}  {name}", self.of(name));
+        }
+        let missing: Vec<&String> = names.iter().filter(|name| self.of(name) == 0).collect();
+        for name in &missing {
+            let _ = writeln!(table, "missing: {name}");
+        }
+        let unlisted: Vec<&String> = self
+            .reached
+            .keys()
+            .filter(|name| !names.contains(name))
+            .collect();
+        for name in &unlisted {
+            let _ = writeln!(table, "unlisted: {name}");
+        }
+        let (all, missed) = (names.len(), missing.len());
+        let _ = writeln!(table, "{read}, {all} outcomes, {missed} missing");
+        (table, missing.is_empty() && unlisted.is_empty())
     }
 }
 
@@ -108,37 +134,8 @@ impl Report {
 
     /// The table, and whether nothing is missing.
     pub fn table(&self) -> (String, bool) {
-        let mut table = String::new();
-        let names = names();
-        for name in &names {
-            // Writing to a string never fails.
-            let _ = writeln!(table, "{:>9}  {name}", self.counts.of(name));
-        }
-        let missing: Vec<&String> = names
-            .iter()
-            .filter(|name| self.counts.of(name) == 0)
-            .collect();
-        for name in &missing {
-            let _ = writeln!(table, "missing: {name}");
-        }
-        let unlisted: Vec<&String> = self
-            .counts
-            .reached
-            .keys()
-            .filter(|name| !names.contains(name))
-            .collect();
-        for name in &unlisted {
-            let _ = writeln!(table, "unlisted: {name}");
-        }
-        let _ = writeln!(
-            table,
-            "{} tapes, {} events, {} outcomes, {} missing",
-            self.tapes,
-            self.events,
-            names.len(),
-            missing.len()
-        );
-        (table, missing.is_empty() && unlisted.is_empty())
+        let read = format!("{} tapes, {} events", self.tapes, self.events);
+        self.counts.table(&names(), &read)
     }
 }
 

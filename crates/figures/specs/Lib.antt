@@ -1,0 +1,18 @@
+-- A tape in figures, and the theorems that tie a text to the tape that is written of it.
+pub mod Figures
+pub mod Reading
+pub mod Whole
+pub mod Refusal
+pub mod Inscribing
+pub mod Running
+pub mod Told
+pub mod RefusalLaws
+pub mod ReadingLaws
+pub mod TakingLaws
+pub mod InscribingLaws
+pub mod EventLaws
+pub mod RunningLaws
+pub mod FigureLaws
+pub mod Outcomes
+pub mod ToldProof
+pub mod Examples

@@ -1,0 +1,10 @@
+-- `inscribe::status_of` meets its contract, by its test.
+use borrow.Author.Tests.{lt-ltb, le-ltb}
+use Rattle.units.specs.Tests.{pick}
+use Rattle.inscribe.specs.Writing.{statusOf}
+use Rattle.inscribe.proofs.status_of.Statement.{statement}
+use Rattle.inscribe.proofs.status_of.Tie as tie
+
+pub status-of-spec : {M : Type 1} → statement M
+unfolding statusOf pick
+status-of-spec = tie.close (tie.spec (λ c. simp (lt-ltb _ _ (c .if1 .taken))) (λ c. simp (le-ltb _ _ (c .if1 .left))))

@@ -1,0 +1,2 @@
+-- The program's loop.
+pub mod Writing

@@ -1,0 +1,2 @@
+-- What the program does between two system calls.
+pub mod Rewriting

@@ -1,0 +1,122 @@
+//! What texts in figures reach: the right lines by their numbers, the refused
+//! ones by the way in which they are wrong and by where they stand. All of it
+//! is told from the text itself.
+
+mod places;
+mod right;
+mod wrong;
+
+use second::figures::{numbers, Events};
+
+use super::Counts;
+
+/// As many bytes as a program may well read at a time.
+const BUFFER: usize = 65_536;
+
+/// The length above which a line is very long.
+const LONG_LINE: usize = 70_000;
+
+/// The names of all outcomes, in the order of the table.
+fn names() -> Vec<String> {
+    [right::names(), wrong::names(), places::names()].concat()
+}
+
+/// Reads texts and counts.
+#[derive(Default)]
+pub struct Report {
+    counts: Counts,
+    texts: u64,
+    events: u64,
+}
+
+impl Report {
+    pub fn read(&mut self, text: &[u8]) {
+        self.texts += 1;
+        let mut events = Events::new(text);
+        let (mut place, mut tape_length) = (0, 0);
+        // Reading from memory never fails.
+        while let Ok(Some(event)) = events.event() {
+            let line = line_at(text, place);
+            match event {
+                Ok(bytes) => {
+                    self.right_line(line, place);
+                    tape_length += bytes.len();
+                }
+                Err(refused) => {
+                    wrong::witness(&mut self.counts, line);
+                    return places::witness(&mut self.counts, text, place, refused.line);
+                }
+            }
+            place += line.len();
+        }
+        right::witness_text(&mut self.counts, text, tape_length);
+    }
+
+    fn right_line(&mut self, line: &[u8], place: usize) {
+        self.events += 1;
+        let spelt = line.strip_suffix(b"\n").and_then(numbers);
+        right::witness_event(&mut self.counts, &spelt.unwrap_or_default());
+        right::witness_place(&mut self.counts, line, place);
+    }
+
+    /// The table, and whether nothing is missing.
+    pub fn table(&self) -> (String, bool) {
+        let read = format!("{} texts, {} events", self.texts, self.events);
+        self.counts.table(&names(), &read)
+    }
+}
+
+/// The line that starts at this place, with its newline if it has one.
+fn line_at(text: &[u8], place: usize) -> &[u8] {
+    let mut lines = text[place..].split_inclusive(|byte| *byte == b'\n');
+    lines.next().unwrap_or_default()
+}
+
+#[cfg(test)]
+mod tests {
+    use super::*;
+    use crate::figures::{round, ways};
+
+    #[test]
+    fn every_round_reaches_every_outcome() {
+        let ways = ways();
+        for seed in 1..=12 {
+            let mut report = Report::default();
+            for (way, seed) in round(&ways, ways.len() as u64, seed) {
+                report.read(&way.text(seed).bytes);
+            }
+            let (table, complete) = report.table();
+            assert!(complete, "seed {seed}: {table}");
+        }
+    }
+
+    #[test]
+    fn what_is_not_there_is_missing() {
+        let mut report = Report::default();
+        report.read(b"2 100 105\n4\n5 5\n");
+        let (table, complete) = report.table();
+        assert!(!complete);
+        let reached = [
+            "written away",
+            "written turn",
+            "write 41 two events, open first",
+            "write 41 in the last of several lines",
+        ];
+        for name in reached {
+            assert!(table.contains(&format!("        1  {name}\n")), "{name}");
+            assert!(!table.contains(&format!("missing: {name}\n")), "{name}");
+        }
+        assert!(table.contains("missing: write 41 empty line\n"));
+        let last = table.lines().last().unwrap();
+        assert!(last.starts_with("1 texts, 2 events, "), "{last}");
+    }
+
+    #[test]
+    fn names_are_all_different() {
+        let mut names = names();
+        let count = names.len();
+        names.sort();
+        names.dedup();
+        assert_eq!(names.len(), count);
+    }
+}
