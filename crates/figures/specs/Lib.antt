@@ -5,7 +5,7 @@ pub mod Whole
 pub mod Refusal
 pub mod Inscribing
 pub mod Running
-pub mod Told
+pub mod TapeInFigures
 pub mod RefusalLaws
 pub mod ReadingLaws
 pub mod TakingLaws
@@ -14,5 +14,5 @@ pub mod EventLaws
 pub mod RunningLaws
 pub mod FigureLaws
 pub mod Outcomes
-pub mod ToldProof
+pub mod TapeInFiguresProof
 pub mod Examples

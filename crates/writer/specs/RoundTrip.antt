@@ -12,7 +12,7 @@ use Rattle.tape.specs.Tape.{eventAt, entriesAt, entriesOf}
 use Rattle.tape.specs.Depth.{mostBytes}
 use Rattle.tape.specs.Leads.{encodeAll, Fit}
 use Rattle.tape.specs.Spelling.{Spells, numbersOf}
-use Rattle.tape.specs.Whole.{Ending, ended, refused, readAll}
+use Rattle.tape.specs.Whole.{ended, refused, readAll}
 use Rattle.writer.specs.Write.{writeRefusal, bufferAfter}
 use Rattle.writer.specs.Tapes.{IsEvent, Events, tapeOf, eventsOf}
 use Rattle.writer.specs.Rewriting.{rewrittenAfter}
@@ -20,11 +20,6 @@ use Rattle.writer.specs.Rewriting.{rewrittenAfter}
 -- the reader takes numbers: given their bytes, it reads one event, which ends where they end
 abbrev pub Taken : List ℕ → Type 0
 Taken vs = (e : Event) × (eventAt (encodeAll vs) 0 ≡ Read e (length (encodeAll vs)))
-
--- where a tape stops: at its end, or before the event that is refused
-pub data StopsAt (s : List ℕ) (q : ℕ) : Ending → Type 0 where
-  at-end : q ≡ length s → StopsAt s q ended
-  at-refusal : {code p : ℕ} → eventAt s q ≡ Refused code p → StopsAt s q (refused code p)
 
 pub record RoundTrip : Type 0 where
   -- 41 exactly for numbers that are not one event; 40 exactly for an event whose length exceeds the room
@@ -53,7 +48,11 @@ pub record RoundTrip : Type 0 where
   pub rewrites :
       (s : List ℕ) (at : ℕ) (e : Event) (end : ℕ) (out : List ℕ) → Bytes s → eventAt s at ≡ Read e end → mostBytes ≤ length out →
       rewrittenAfter s at out ≡ take (end - at) (drop at s) ++ drop (end - at) out
-  -- so are all events of a tape: to its end, or up to the event that is refused
-  pub tape-writes-back : (s : List ℕ) → Bytes s → (q : ℕ) × StopsAt s q (readAll s .ending) × (tapeOf (eventsOf (readAll s)) ≡ take q s)
+  -- so are all events of a tape that is read to its end,
+  pub tape-writes-back : (s : List ℕ) → Bytes s → readAll s .ending ≡ ended → tapeOf (eventsOf (readAll s)) ≡ s
+  -- and of a refused one those before the event that is refused, at the place q
+  pub front-writes-back :
+      (s : List ℕ) (code p : ℕ) → Bytes s → readAll s .ending ≡ refused code p →
+      (q : ℕ) × (eventAt s q ≡ Refused code p) × (tapeOf (eventsOf (readAll s)) ≡ take q s)
   -- and none of them is refused as no event
   pub events-are : (s : List ℕ) → Bytes s → Events (eventsOf (readAll s))

@@ -7,7 +7,7 @@ use Prim.Native.Nat.{ℕ, zero, suc, _+_, _-_, _≤_, _<_}
 use native.Mathlib.Nat.{zero-add}
 use native.Mathlib.Omega.{arith}
 use lib.ListN.{length, take, drop, length-append, length-drop}
-use lib.Seq.{take-add, length-take-le}
+use lib.Seq.{take-add, take-all, length-take-le}
 use borrow.Author.Tests.{lt-ltb, le-ltb}
 use Rattle.units.specs.Tests.{isNot, pick, pick-yes, pick-no, holds-not-fails}
 use Rattle.numeral.specs.Cases.{below}
@@ -22,13 +22,13 @@ use Rattle.tape.specs.Depth.{mostBytes}
 use Rattle.tape.specs.Leads.{encodeAll, Fit, read-whole, read-fit}
 use Rattle.tape.specs.Spelling.{numbersOf, leads-spells, one-spelling, spelt, consumed, read-back}
 use Rattle.tape.specs.One.{oneEvent}
-use Rattle.tape.specs.Whole.{Whole, ended, _before_, readBy, readFrom, readAll, nothingBut}
+use Rattle.tape.specs.Whole.{Whole, Ending, ended, refused, _before_, readBy, readFrom, readAll, nothingBut}
 use Rattle.tape.specs.WholeLaws.{read-next}
 use Rattle.writer.specs.Write.{writeRefusal, bufferAfter}
 use Rattle.writer.specs.WriteLaws.{event-says, never-short}
 use Rattle.writer.specs.Tapes.{IsEvent, Events, tapeOf, eventsOf}
 use Rattle.writer.specs.Rewriting.{rewrittenAfter}
-use Rattle.writer.specs.RoundTrip.{Taken, StopsAt, at-end, at-refusal, RoundTrip}
+use Rattle.writer.specs.RoundTrip.{Taken, RoundTrip}
 
 -- numbers that are no event, an event too long for the room, and one that has room
 data Outcome (vs : List ℕ) (room : ℕ) : Type 0 where
@@ -98,6 +98,11 @@ reads-from front (vs ∷ all) ((fit, (e, is)), every) =
     let i = reads-from behind all every in
     (ap eventsOf first ∙ ap₂ (λ (ws : List ℕ) (l : List (List ℕ)). ws ∷ l) (sym (one-spelling vs e is)) (i .0), ap (λ (w : Whole). w .ending) first ∙ i .1)
 
+-- where a tape stops: at its end, or before the event that is refused
+data StopsAt (s : List ℕ) (q : ℕ) : Ending → Type 0 where
+  at-end : q ≡ length s → StopsAt s q ended
+  at-refusal : {code p : ℕ} → eventAt s q ≡ Refused code p → StopsAt s q (refused code p)
+
 -- the events of a tape from a place on, written, are its bytes from there to where it stops
 record WritesFrom (s : List ℕ) (at : ℕ) (w : Whole) : Type 0 where
   q : ℕ
@@ -163,6 +168,18 @@ rewrites-same s at e end out b q room =
     let long : length (take (end - at) (drop at s)) ≡ end - at = length-take-le (end - at) (drop at s) (rw length-drop (omega (arith, on .1))) in
     rw (q) (writes vs out (never-short vs (length out) room (event-says vs .1 (spelt-by s b at e end q .1))) ∙ rw (same, long))
 
+-- where a tape stops, by its ending
+stops-by : {s : List ℕ} {q : ℕ} {ending : Ending} → StopsAt s q ending → ending ≡ ended → q ≡ length s
+stops-by (at-end e) h = e
+stops-by (at-refusal e) h = let z : _≡_ {A = ℕ} 0 1 = cc in absurd (omega arith)
+
+refused-by : {s : List ℕ} {q : ℕ} {ending : Ending} (code p : ℕ) → StopsAt s q ending → ending ≡ refused code p → eventAt s q ≡ Refused code p
+refused-by code p (at-end e) h = let z : _≡_ {A = ℕ} 0 1 = cc in absurd (omega arith)
+refused-by code p (at-refusal {code = k} {p = r} e) h =
+    let c : k ≡ code = cc in
+    let same : r ≡ p = cc in
+    rw (c, same) at e
+
 pub round-trip : RoundTrip
 unfolding bufferAfter
 round-trip = record {
@@ -177,6 +194,7 @@ round-trip = record {
   tape-reads-back = λ all every. reads-from [] all every;
   writes-back = λ s at e end b p. sym (consumed s at e end b p);
   rewrites = rewrites-same;
-  tape-writes-back = λ s b. let w = all-of s b .0 in (w .q, w .stops, w .bytes);
+  tape-writes-back = λ s b e. let w = all-of s b .0 in w .bytes ∙ (rw (stops-by (w .stops) e) (take-all (length s) s (omega arith)));
+  front-writes-back = λ s code p b e. let w = all-of s b .0 in (w .q, refused-by code p (w .stops) e, w .bytes);
   events-are = λ s b. all-of s b .1;
 }

@@ -21,7 +21,7 @@ use Rattle.writer.specs.Tapes.{Writable, Events, tapeOf}
 use Rattle.figures.specs.Figures.{lineOf, textOf}
 use Rattle.figures.specs.Reading.{notOne, lineStart, Reader, byteOf}
 use Rattle.figures.specs.Whole.{Ending, ended, refused, Inscription, nothingBut, _before_, inLine, lastCode, inscribedFrom, inscribed}
-use Rattle.figures.specs.Told.{NoLine, OnlyFigures, RefusedLine, TapeInFigures}
+use Rattle.figures.specs.TapeInFigures.{NoLine, OnlyFigures, RefusedLine, TapeInFigures}
 use Rattle.figures.specs.EventLaws.{one-of, one-some, event-bytes}
 use Rattle.figures.specs.FigureLaws.{stateOf, spaced, soFar, Last, behind, last-of, reads-on, so-far-read, line-read}
 use Rattle.figures.specs.RunningLaws.{writes-whole, runs-whole}
