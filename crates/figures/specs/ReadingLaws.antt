@@ -24,11 +24,7 @@ placed b p h =
     let range = or-false (ltb b 48) (ltb 57 b) (two .0) in
     (ltb-false b 48 (range .0), ltb-false 57 b (range .1), λ begun. omega (arith, eqb-false (p .value) 0 (and-false (p .begun) (eqb (p .value) 0) (two .1) begun)))
 
--- a number that can end has begun, and there is room for it
-pub can-begun : (p : Place) (room : ℕ) → canEnd p room ≡ true → p .begun ≡ true
-unfolding canEnd
-can-begun p room h = and-true (p .begun) (ltb (p .count) room) h .0
-
+-- where a number can end there is room for it
 pub can-fits : (p : Place) (room : ℕ) → canEnd p room ≡ true → p .count < room
 unfolding canEnd
 can-fits p room h = ltb-true (p .count) room (and-true (p .begun) (ltb (p .count) room) h .1)
