@@ -1,5 +1,5 @@
-//! The worked example and the marked examples, run on whole sessions, and the
-//! refusals that no tape reaches.
+//! The worked example, the marked examples and that of ticket 2, run on whole
+//! sessions, and the refusals that no tape reaches.
 
 use crate::refusal::Refusal;
 use crate::session::{Session, Tally, MOST_TURNS, RECORDS};
@@ -180,6 +180,18 @@ fn e11() {
         trading(&lines)[4..],
         ["open 0 105 4", "fill 1 0 4 105", "fill 3 0 4 105", "gone 1"]
     );
+}
+
+#[test]
+fn ticket_2() {
+    let book = "submit tenant 0: buy day 1 at 310, sell day 1 at 295\nturn times 2\n";
+    let opened = |grid: u32| {
+        let words = format!("{book}away bid 298 offer 306\nopen\n");
+        trading(&after(&[(1, grid)], &words))[2].to_string()
+    };
+    assert_eq!(opened(1), "open 0 302 1");
+    assert_eq!(opened(2), "open 0 300 1");
+    assert_eq!(opened(3), "open 0 300 1");
 }
 
 #[test]

@@ -41,9 +41,15 @@ pub record CanOpen (tallies : List Tally) (b : Book) (was : List ℕ) : Type 0 w
   pub sums : SoundTallies tallies next b
   pub records-long : length was ≡ fields * rows
 
--- NBB and NBO here are the away quote alone; the last print and the previous close are settings
+-- NBB and NBO here are the away quote alone; the grid, the last print and the previous close are settings
 abbrev pub sourcesIn : Series → Sources
-sourcesIn s = record { bid = s .away .bid; offer = s .away .offer; print = s .terms .print; close = s .terms .close }
+sourcesIn s = record {
+  grid = s .terms .grid;
+  bid = s .away .bid;
+  offer = s .away .offer;
+  print = s .terms .print;
+  close = s .terms .close;
+}
 
 unfoldable pub choiceIn : Series → Choice
 choiceIn s = priceOf (sourcesIn s)

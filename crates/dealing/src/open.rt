@@ -25,15 +25,17 @@ pub enum Way {
     At(Cents),
 }
 
-// The first valid opening price by the away quote, the last print and the previous close.
+// The first valid opening price by the grid, the away quote, the last print and the previous close.
 fn choice(s: Series) -> Choice
     ensures { λ r. ⌜ r ≡ choiceIn s ⌝ }
 {
+    let grid = s.terms.grid;
     let bid = s.away.bid;
     let offer = s.away.offer;
     let print = s.terms.print;
     let close = s.terms.close;
     choose(Sources {
+        grid: grid,
         bid: bid,
         offer: offer,
         print: print,

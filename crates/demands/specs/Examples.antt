@@ -1,8 +1,10 @@
--- E1 to E12 of the paper, of the rules' own definitions: one record with a field for each, and one value of it.
+-- E1 to E12 of the paper and the example of the nickel classes, of the rules' own definitions: one record with a field
+-- for each, and one value of it.
 use mathlib.Core.Path.{_≡_, refl}
 use mathlib.Core.Bool.{true, false}
 use mathlib.Core.List.{List, [], _∷_}
 use Prim.Native.Nat.{ℕ}
+use Rattle.units.specs.Grid.{stepping, highestOn}
 use Rattle.units.specs.GridLaws.{E4, e4 as grid-two}
 use Rattle.units.specs.Tests.{_and_, _or_, isNot, pick}
 use Rattle.units.specs.Cases.{lowerIf}
@@ -28,8 +30,9 @@ use Rattle.judge.specs.Examples.{E5, E9, examples as orders-judged}
 use Rattle.lanes.specs.Ring.{entryAt, slot, waitingAt}
 use Rattle.lanes.specs.Rotation.{distance, servedBy, served}
 use Rattle.lanes.specs.Examples.{E10, e10 as lanes-served}
-use Rattle.price.specs.Price.{valid, midpoint, usable, firstValid, priceOf}
-use Rattle.price.specs.Examples.{E6, e6 as prices-chosen}
+use Rattle.price.specs.Amounts.{minimumAmount}
+use Rattle.price.specs.Price.{nearEither, valid, midpoint, usable, firstValid, priceOf}
+use Rattle.price.specs.Examples.{E6, InGridTwo, InGridThree, e6 as prices-chosen, nickels as prices-on-grids}
 use Rattle.session.specs.Market.{Market}
 use Rattle.dealing.specs.Deal.{quotesOn, filledOf, dispositionIn, bookAfter, trades, ordered, dealt}
 use Rattle.session.specs.Turn as turn
@@ -37,7 +40,7 @@ use Rattle.session.specs.Turn.{turnRefusal, afterTaking, turnOf}
 use Rattle.dealing.specs.Open.{choiceIn, wayRefusal}
 use Rattle.session.specs.Open as opening
 use Rattle.session.specs.Open.{openAt, openOf}
-use Rattle.demands.specs.Markets.{terms, awayQuote, sessionOn}
+use Rattle.demands.specs.Markets.{terms, termsOn, awayQuote, sessionOn}
 use Rattle.demands.specs.Values.{turnLine, openLine}
 
 -- offers at one price, of the sizes given, numbered from 1
@@ -97,6 +100,21 @@ eleventh = record {
   entries = [];
 }
 
+-- grid 2, away 298/306; a buy at 305 and a sell at 295; unopened
+abbrev pub nickel : Market
+nickel = record {
+  session = sessionOn false (termsOn (stepping 1 5) 10 20 0) (awayQuote 298 306) 3;
+  book = record {
+    places = 2;
+    sides = 1 ∷ 2 ∷ [];
+    prices = 305 ∷ 295 ∷ [];
+    sizes = 1 ∷ 1 ∷ [];
+    owners = 0 ∷ 1 ∷ [];
+    numbers = 1 ∷ 2 ∷ [];
+  };
+  entries = [];
+}
+
 pub record Examples : Type 0 where
   -- E1 sizes 5, 5, 5, 5, Q 10: 3, 3, 2, 2.
   pub e1 : shares (5 ∷ 5 ∷ 5 ∷ 5 ∷ []) 4 10 ≡ 3 ∷ 3 ∷ 2 ∷ 2 ∷ []
@@ -130,6 +148,12 @@ pub record Examples : Type 0 where
       × (openOf eleventh 216 [] .market .book .sizes ≡ 0 ∷ 5 ∷ 0 ∷ 3 ∷ [])
   -- E12 0 is 00, 128 is 80 01, 300 is AC 02; 80 00 is 31.
   pub e12 : E12
+  -- The opening price in nickel classes: away 298/306 in grid 2 opens at 300; and midpoints in grids 2 and 3.
+  pub nickels :
+      (opening.printed (openOf nickel 216 [] .answer) ≡ openLine 0 300 1)
+      × (openOf nickel 216 [] .records ≡ 1 ∷ 0 ∷ 1 ∷ 300 ∷ 2 ∷ 1 ∷ 1 ∷ 300 ∷ [])
+      × InGridTwo
+      × InGridThree
 
 pub examples : Examples
 unfolding sumTo same lower precedes firstTo leastTo greatestTo table keyOf within openSize buyPrice sellPrice restsFor highestBuy lowestSell
@@ -137,7 +161,7 @@ unfolding sumTo same lower precedes firstTo leastTo greatestTo table keyOf withi
     records recorded fieldOf written filled traded afterTrade tradeRecords tradeWritten sortKey volume bought sold matched afterFills
     buyGoes sellGoes afterOpening openingRecords openingWritten lowerOffer quotesOf notYet offGrid atStrike noOffer unbid noBid converts
     asJudged tooWide farBuy farSell farPrice mightRest noRoom usedUp turnDown buyBound boundOf beyondDrill atAway dispositionOf verdict
-    entryAt slot waitingAt distance servedBy served valid midpoint usable firstValid priceOf quotesOn turnRefusal afterTaking filledOf
+    entryAt slot waitingAt distance servedBy served minimumAmount nearEither valid highestOn midpoint usable firstValid priceOf quotesOn turnRefusal afterTaking filledOf
     dispositionIn bookAfter trades ordered dealt turnOf choiceIn wayRefusal openAt openOf _and_ _or_ isNot pick lowerIf
 examples = record {
   e1 = refl;
@@ -152,4 +176,5 @@ examples = record {
   e10 = lanes-served;
   e11 = (refl, refl, refl);
   e12 = numbers-read;
+  nickels = (refl, refl, prices-on-grids .0, prices-on-grids .1);
 }

@@ -5,6 +5,7 @@ use Prim.Native.Nat.{ℕ}
 use lib.ListN.{replicate}
 use Rattle.units.specs.Units.{tenants, cents}
 use Rattle.units.specs.Grid.{stepping}
+use Rattle.units.specs.declared.grid.Grid.{Grid}
 use Rattle.tally.specs.Tallies.{noTallies}
 use Rattle.entry.specs.declared.Away.{Away}
 use Rattle.entry.specs.declared.Settings.{Settings}
@@ -37,11 +38,11 @@ printing print = record {
 abbrev pub worked : Settings
 worked = printing 0
 
--- the same with other buffers and another last print, on grid 1
-abbrev pub terms : ℕ → ℕ → ℕ → Terms
-terms d f print = record {
+-- the same with another grid, other buffers and another last print
+abbrev pub termsOn : Grid → ℕ → ℕ → ℕ → Terms
+termsOn grid d f print = record {
   allocation = 1;
-  grid = stepping 1 1;
+  grid = grid;
   put = false;
   strike = cents 10000;
   drill = cents d;
@@ -52,6 +53,10 @@ terms d f print = record {
   print = cents print;
   close = cents 0;
 }
+
+-- and on grid 1
+abbrev pub terms : ℕ → ℕ → ℕ → Terms
+terms = termsOn (stepping 1 1)
 
 abbrev pub awayQuote : ℕ → ℕ → Away
 awayQuote bid offer = record { bid = cents bid; offer = cents offer }

@@ -64,6 +64,7 @@ use Rattle.units.proofs.grid.Grid.of.Reads as units-of
 use Rattle.units.proofs.grid.Grid.lowest.Reads as units-lowest
 use Rattle.units.proofs.grid.Grid.step.Reads as units-step
 use Rattle.units.proofs.grid.Grid.on.Reads as units-on
+use Rattle.units.proofs.grid.Grid.at_or_below.Reads as units-at-or-below
 use Rattle.numeral.proofs.read.Reads as number-read
 use Rattle.numeral.proofs.refusal.Reads as number-refusal
 use Rattle.numeral.proofs.writing.length.Reads as number-length
@@ -257,6 +258,9 @@ one-units-step κs a z z′ e e′ = same
 
 pub one-units-on : OneResult units-on.Post
 one-units-on κs a z z′ e e′ = same
+
+pub one-units-at-or-below : OneResult units-at-or-below.Post
+one-units-at-or-below κs a z z′ e e′ = same
 
 -- ---- number
 

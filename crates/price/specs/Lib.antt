@@ -1,7 +1,8 @@
--- The opening price: the rules of document 01 as definitions, and the laws about them.
+-- The opening price: the rules as definitions, and the laws about them.
 pub mod Amounts
 pub mod AmountLaws
 pub mod Price
 pub mod PriceLaws
+pub mod Midpoint
 pub mod Words
 pub mod Examples

@@ -3,6 +3,8 @@ use mathlib.Core.Bool.{Bool, true, false, cond, _&&_, _||_}
 use Prim.Native.Nat.{ℕ, _+_, _/_}
 use lib.Dec.{leb, ltb}
 use Rattle.units.specs.Units.{cents}
+use Rattle.units.specs.Grid.{highestOn}
+use Rattle.units.specs.declared.grid.Grid.{Grid}
 use Rattle.price.specs.Amounts.{minimumAmount}
 use Rattle.price.specs.declared.Sources.{Sources}
 use Rattle.price.specs.declared.Choice.{Choice}
@@ -21,23 +23,24 @@ module _ (bid offer : ℕ) where
       (cond (ltb 0 offer) (leb bid price && leb price offer && nearEither price) (leb bid price))
       (cond (ltb 0 offer) (leb price offer) true)
 
-  -- midpoint, (NBB + NBO)/2 rounded down to a cent, if both exist; else 0
-  unfoldable pub midpoint : ℕ
-  midpoint = cond (ltb 0 bid && ltb 0 offer) ((bid + offer) / 2) 0
+  -- midpoint, the highest grid price at or below (NBB + NBO)/2, if both exist; else 0, and 0 where there is none of at
+  -- least 1
+  unfoldable pub midpoint : Grid → ℕ
+  midpoint grid = cond (ltb 0 bid && ltb 0 offer) (highestOn grid ((bid + offer) / 2)) 0
 
   -- a price of 0 is none
   unfoldable pub usable : ℕ → Bool
   usable price = ltb 0 price && valid price
 
-  -- the first valid of: midpoint if both exist; last print if not 0; previous close if not 0
-  unfoldable pub firstValid : ℕ → ℕ → Choice
-  firstValid print close =
-      cond (usable midpoint) (At (cents midpoint))
+  -- the first valid of: midpoint if there is one; last print if not 0; previous close if not 0
+  unfoldable pub firstValid : Grid → ℕ → ℕ → Choice
+  firstValid grid print close =
+      cond (usable (midpoint grid)) (At (cents (midpoint grid)))
       (cond (usable print) (At (cents print))
       (cond (usable close) (At (cents close)) NoneValid))
 
 unfoldable pub priceOf : Sources → Choice
-priceOf s = firstValid (s .bid .0) (s .offer .0) (s .print .0) (s .close .0)
+priceOf s = firstValid (s .bid .0) (s .offer .0) (s .grid) (s .print .0) (s .close .0)
 
 -- the price chosen, 0 where none is valid
 abbrev pub chosen : Choice → ℕ

@@ -14,13 +14,13 @@ use Rattle.price.specs.declared.Choice.the-variants.{At, NoneValid}
 
 -- none of the three is usable
 pub record NoneUsable (s : Sources) : Type 0 where
-  pub no-midpoint : usable (s .bid .0) (s .offer .0) (midpoint (s .bid .0) (s .offer .0)) ≡ false
+  pub no-midpoint : usable (s .bid .0) (s .offer .0) (midpoint (s .bid .0) (s .offer .0) (s .grid)) ≡ false
   pub no-print : usable (s .bid .0) (s .offer .0) (s .print .0) ≡ false
   pub no-close : usable (s .bid .0) (s .offer .0) (s .close .0) ≡ false
 
 module _ (s : Sources) where
   abbrev middle : ℕ
-  middle = midpoint (s .bid .0) (s .offer .0)
+  middle = midpoint (s .bid .0) (s .offer .0) (s .grid)
 
   abbrev may : ℕ → Bool
   may = usable (s .bid .0) (s .offer .0)

@@ -3,7 +3,7 @@
 use mathlib.Core.Path.{_≡_, refl}
 use mathlib.Core.Logic.{_↔_, _⊎_}
 use mathlib.Core.Bool.{Bool, true, false, cond, _&&_}
-use Prim.Native.Nat.{ℕ, _+_, _/_, _≤_, _<_}
+use Prim.Native.Nat.{ℕ, _+_, _≤_, _<_}
 use native.Mathlib.Omega.{arith}
 use lib.Dec.{leb, ltb}
 use borrow.Author.Tests.{lt-ltb, le-ltb, le-leb, lt-leb, ltb-true, ltb-false, leb-true, leb-false}
@@ -11,6 +11,7 @@ use Rattle.units.specs.Tests.{fails, holds-not-fails}
 use Rattle.units.specs.Says.{less-says, most-says, &&-says, ||-says}
 use Rattle.price.specs.Amounts.{minimumAmount}
 use Rattle.price.specs.Price.{nearEither, valid, midpoint, usable, chosen, noneValid}
+use Rattle.price.specs.Midpoint.{Midpoint, midpoint-highest}
 use Rattle.price.specs.PriceLaws.{NoneUsable, First, at-midpoint, at-print, at-close, nowhere}
 use Rattle.price.specs.declared.Sources.{Sources}
 use Rattle.price.specs.declared.Choice.{Choice}
@@ -43,9 +44,9 @@ module _ (s : Sources) where
   abbrev nbo : ℕ
   nbo = s .offer .0
 
-  -- midpoint, (NBB + NBO)/2 rounded down to a cent, if both exist; last print if not 0; previous close if not 0
+  -- midpoint if there is one; last print if not 0; previous close if not 0
   abbrev pub MidpointValid : Type 0
-  MidpointValid = (0 < nbb) × (0 < nbo) × Valid nbb nbo ((nbb + nbo) / 2)
+  MidpointValid = (price : ℕ) × Midpoint (s .grid) nbb nbo price × Valid nbb nbo price
 
   abbrev pub PrintValid : Type 0
   PrintValid = (0 < s .print .0) × Valid nbb nbo (s .print .0)
@@ -61,7 +62,7 @@ module _ (s : Sources) where
 
   -- the first valid of the three
   pub data FirstValid : ℕ → Type 0 where
-    by-midpoint : MidpointValid → FirstValid ((nbb + nbo) / 2)
+    by-midpoint : (m : MidpointValid) → FirstValid (m .0)
     by-print : (MidpointValid → ⊥) → PrintValid → FirstValid (s .print .0)
     by-close : (MidpointValid → ⊥) → (PrintValid → ⊥) → CloseValid → FirstValid (s .close .0)
 
@@ -132,19 +133,20 @@ module _ (s : Sources) where
   abbrev may : ℕ → Bool
   may = usable (s .bid .0) (s .offer .0)
 
-  -- the midpoint is usable exactly if both quotes exist and it is valid
-  midpoint-says : (may (midpoint (s .bid .0) (s .offer .0)) ≡ true) ↔ MidpointValid s
-  unfolding midpoint
-  midpoint-says = go (ltb 0 (s .bid .0)) (ltb 0 (s .offer .0)) refl refl
-    where
-      go : (a b : Bool) → ltb 0 (s .bid .0) ≡ a → ltb 0 (s .offer .0) ≡ b → (may (cond (a && b) ((s .bid .0 + s .offer .0) / 2) 0) ≡ true) ↔ MidpointValid s
-      go true true x y =
-          let says = usable-says (s .bid .0) (s .offer .0) ((s .bid .0 + s .offer .0) / 2) in
-          let bid = ltb-true 0 (s .bid .0) x in
-          let offer = ltb-true 0 (s .offer .0) y in
-          (λ h. (bid, offer, says .0 h .1), λ (_, _, v). says .1 (omega arith, v))
-      go true false x y = (λ h. absurd (omega (arith, usable-says (s .bid .0) (s .offer .0) 0 .0 h .0)), λ (_, offer, _). absurd (omega (arith, ltb-false 0 (s .offer .0) y)))
-      go false b x y = (λ h. absurd (omega (arith, usable-says (s .bid .0) (s .offer .0) 0 .0 h .0)), λ (bid, _, _). absurd (omega (arith, ltb-false 0 (s .bid .0) x)))
+  abbrev middle : ℕ
+  middle = midpoint (s .bid .0) (s .offer .0) (s .grid)
+
+  -- where the midpoint is usable, it is the one in words, and valid
+  abbrev middle-valid : may middle ≡ true → MidpointValid s
+  middle-valid h =
+      let says = usable-says (s .bid .0) (s .offer .0) middle .0 h in
+      (middle, midpoint-highest (s .grid) (s .bid .0) (s .offer .0) middle (says .0) .0 refl, says .1)
+
+  midpoint-says : (may middle ≡ true) ↔ MidpointValid s
+  midpoint-says = (
+    middle-valid,
+    λ (p, m, v). rw (midpoint-highest (s .grid) (s .bid .0) (s .offer .0) p (m .least) .1 m) (usable-says (s .bid .0) (s .offer .0) p .1 (m .least, v)),
+  )
 
   print-says : (may (s .print .0) ≡ true) ↔ PrintValid s
   print-says = usable-says (s .bid .0) (s .offer .0) (s .print .0)
@@ -167,13 +169,9 @@ module _ (s : Sources) where
     },
   )
 
-  midpoint-is : 0 < s .bid .0 → 0 < s .offer .0 → midpoint (s .bid .0) (s .offer .0) ≡ (s .bid .0 + s .offer .0) / 2
-  unfolding midpoint
-  midpoint-is bid offer = rw (lt-ltb 0 (s .bid .0) bid, lt-ltb 0 (s .offer .0) offer) refl
-
   -- the price chosen is the first valid
   pub first-says : {c : Choice} → First s c → noneValid c ≡ false → FirstValid s (chosen c)
-  first-says (at-midpoint i) e = let v = midpoint-says .0 i in rw (midpoint-is (v .0) (v .1)) (by-midpoint v)
+  first-says (at-midpoint i) e = by-midpoint (middle-valid i)
   first-says (at-print i j) e = by-print (λ v. holds-not-fails (midpoint-says .1 v) i) (print-says .0 j)
   first-says (at-close i j k) e =
       by-close (λ v. holds-not-fails (midpoint-says .1 v) i) (λ v. holds-not-fails (print-says .1 v) j) (close-says .0 k)

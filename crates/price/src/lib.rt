@@ -1,16 +1,18 @@
-// The opening price: the midpoint of the away quote, the last print or the previous close, the first of them that is
-// valid.
+// The opening price: the midpoint of the away quote, on the grid, the last print or the previous close, the first of
+// them that is valid.
 mod amounts;
 
 use amounts::minimum_amount;
 use units::Cents;
+use units::grid::Grid;
 ghost use mathlib.Core.Path.{_≡_};
 ghost use mathlib.Core.Bool.{_&&_};
 ghost use lib.Dec.{leb};
 ghost use Rattle.price.specs.Price.{nearEither, valid, midpoint, usable, priceOf};
 
-// Where an opening price may come from, each 0 where absent.
+// Where an opening price may come from, each 0 where absent, and the grid that the midpoint is a price of.
 pub struct Sources {
+    pub grid: Grid,
     pub bid: Cents,
     pub offer: Cents,
     pub print: Cents,
@@ -66,13 +68,14 @@ fn valid(bid: Cents, offer: Cents, price: Cents) -> bool
     }
 }
 
-// Halfway between the quotes, rounded down to a cent; 0 if one is absent.
-fn midpoint(bid: Cents, offer: Cents) -> Cents
-    ensures { λ r. ⌜ r .0 ≡ midpoint (bid .0) (offer .0) ⌝ }
+// The highest grid price at or below halfway between the quotes; 0 if there is none, or a quote is absent.
+fn midpoint(grid: Grid, bid: Cents, offer: Cents) -> Cents
+    ensures { λ r. ⌜ r .0 ≡ midpoint (bid .0) (offer .0) grid ⌝ }
 {
     if 0 < bid.0 {
         if 0 < offer.0 {
-            Cents((((bid.0 as u64) + (offer.0 as u64)) / 2) as u32)
+            let half = ((bid.0 as u64) + (offer.0 as u64)) / 2;
+            grid.at_or_below(Cents(half as u32))
         } else {
             Cents(0)
         }
@@ -96,11 +99,12 @@ fn usable(bid: Cents, offer: Cents, price: Cents) -> bool
 pub fn choose(s: Sources) -> Choice
     ensures { λ r. ⌜ r ≡ priceOf s ⌝ }
 {
+    let grid = s.grid;
     let bid = s.bid;
     let offer = s.offer;
     let print = s.print;
     let close = s.close;
-    let middle = midpoint(bid, offer);
+    let middle = midpoint(grid, bid, offer);
     if usable(bid, offer, middle) {
         Choice::At(middle)
     } else if usable(bid, offer, print) {

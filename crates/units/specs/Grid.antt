@@ -1,5 +1,5 @@
 -- The price grids.
-use Prim.Native.Nat.{ℕ, _%_}
+use Prim.Native.Nat.{ℕ, zero, suc, _%_}
 use mathlib.Core.Bool.{Bool, cond}
 use lib.Dec.{ltb, eqb}
 use Rattle.units.specs.Units.{cents}
@@ -30,3 +30,8 @@ stepOf g price = cond (ltb (price .0) 300) (g .low) (g .high)
 -- A price is on the grid if its step divides it.
 abbrev pub onGrid : Grid → Cents → Bool
 onGrid g price = eqb (price .0 % stepOf g price .0) 0
+
+-- the highest price of the grid at or below a price, 0 where there is none of at least 1
+unfoldable pub highestOn : Grid → ℕ → ℕ
+highestOn g zero = 0
+highestOn g (suc p) = cond (onGrid g (cents (suc p))) (suc p) (highestOn g p)

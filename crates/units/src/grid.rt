@@ -1,7 +1,8 @@
 // The three price grids: a step below the turn, and a step from the turn on.
 use crate::Cents;
 ghost use mathlib.Core.Path.{_≡_};
-ghost use Rattle.units.specs.Grid.{stepping, gridOf, lowestOf, stepOf, onGrid};
+ghost use Rattle.units.specs.Units.{cents};
+ghost use Rattle.units.specs.Grid.{stepping, gridOf, lowestOf, stepOf, onGrid, highestOn};
 
 // A grid is its two steps, so one proof over the steps serves all three.
 pub struct Grid {
@@ -78,5 +79,20 @@ impl Grid {
             0 => price.0 == 0,
             _ => price.0 % by == 0,
         }
+    }
+
+    // The highest price of the grid at or below a price, 0 where there is none of at least 1. The prices are tried from
+    // above: on the three grids a step is at most ten cents.
+    pub fn at_or_below(self, price: Cents) -> Cents
+        ensures { λ r. ⌜ r ≡ cents (highestOn self (price .0)) ⌝ }
+    {
+        let mut p = price.0;
+        while 0 < p {
+            if self.on(Cents(p)) {
+                return Cents(p);
+            }
+            p -= 1;
+        }
+        Cents(0)
     }
 }

@@ -14,10 +14,10 @@ use Rattle.price.proofs.choose.Tie as tie
 
 -- once the midpoint is tried: where the prices come from, and what the test says of it
 abbrev sources : tie.After-usable → Sources
-sources c = c .before .before .before .before .before .before .args .s
+sources c = c .before .before .before .before .before .before .before .args .s
 
 tried : (c : tie.After-usable) {t : Bool} → c .usable .result ≡ t
-    → usable (sources c .bid .0) (sources c .offer .0) (midpoint (sources c .bid .0) (sources c .offer .0)) ≡ t
+    → usable (sources c .bid .0) (sources c .offer .0) (midpoint (sources c .bid .0) (sources c .offer .0) (sources c .grid)) ≡ t
 tried c e = rw (c .before .midpoint .ensures) at (sym (c .usable .ensures) ∙ e)
 
 returns : tie.Need-returns

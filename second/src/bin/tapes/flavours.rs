@@ -109,7 +109,10 @@ pub const FLAVOURS: [Flavour; 17] = [
         "openings",
         "each source, imbalance and refusal",
         0,
-        |pen, _| play(pen, &openings::ALL),
+        |pen, _| {
+            play(pen, &openings::ALL)?;
+            play(pen, &openings::GRIDS)
+        },
     ),
     flavour(
         "damaged",

@@ -1,13 +1,15 @@
 //! Scenes for the opening: each source of its price, each way of being not
-//! valid, imbalances on both sides and cancelled orders on both sides.
+//! valid, imbalances on both sides and cancelled orders on both sides; and the
+//! midpoint in each grid.
 
 use std::io;
+use std::ops::RangeInclusive;
 
 use second::entry::Side;
 
 use super::{Scene, SIDES};
 use crate::pen::{into, limit, market, with, Pen, DAY, PLAIN};
-use crate::pen::{ALLOCATION, CLOSE, PRINT};
+use crate::pen::{Numbers, ALLOCATION, CLOSE, GRID, PRINT};
 
 /// The orders of one side, as price and size.
 type Orders = &'static [(u32, u32)];
@@ -23,10 +25,33 @@ pub const ALL: [Scene; 8] = [
     random_books,
 ];
 
+/// The scenes for the midpoint in each grid, which a tape has behind all those
+/// above.
+pub const GRIDS: [Scene; 7] = [
+    midpoints_beside_a_step,
+    midpoints_at_the_turn,
+    midpoints_of_a_few_cents,
+    midpoints_below_the_bid,
+    midpoints_valid_once_rounded,
+    prints_off_the_grid,
+    random_books_on_the_grid,
+];
+
 /// Settings of either class with these prints, unopened.
 fn unopened(pen: &mut Pen, print: u32, close: u32) -> io::Result<()> {
+    unopened_in(pen, 1, (print, close))
+}
+
+/// Settings of either class in this grid with this print and close, unopened.
+fn unopened_in(pen: &mut Pen, grid: u32, prints: (u32, u32)) -> io::Result<()> {
     let class = pen.either_class();
-    let replaced = [(ALLOCATION, class), (PRINT, print), (CLOSE, close)];
+    let (print, close) = prints;
+    let replaced = [
+        (ALLOCATION, class),
+        (GRID, grid),
+        (PRINT, print),
+        (CLOSE, close),
+    ];
     pen.settings(with(PLAIN, &replaced))
 }
 
@@ -209,6 +234,222 @@ fn random_books(pen: &mut Pen) -> io::Result<()> {
         pen.open()?;
         pen.take(5, market(Side::Sell, DAY, 15))?;
         pen.take(5, market(Side::Buy, DAY, 15))?;
+    }
+    Ok(())
+}
+
+/// A book that crosses at every price of the grid.
+fn crossed_in(pen: &mut Pen, grid: u32) -> io::Result<()> {
+    let (buy, sell) = (pen.dice.within(1..=9), pen.dice.within(1..=9));
+    let lowest = if grid == 3 { 5 } else { 1 };
+    let orders = [
+        limit(Side::Buy, DAY, 1_000_000, buy),
+        limit(Side::Sell, DAY, lowest, sell),
+    ];
+    let tenant = pen.tenant();
+    pen.take_all(tenant, &orders)
+}
+
+/// Quotes an unopened series and opens it.
+fn open_under(pen: &mut Pen, quotes: (u32, u32)) -> io::Result<()> {
+    pen.away(quotes.0, quotes.1)?;
+    pen.open()
+}
+
+/// A series in this grid with this print and close, its book crossed at every
+/// price, opened under these quotes.
+fn open_in(pen: &mut Pen, grid: u32, prints: (u32, u32), quotes: (u32, u32)) -> io::Result<()> {
+    unopened_in(pen, grid, prints)?;
+    crossed_in(pen, grid)?;
+    open_under(pen, quotes)
+}
+
+/// Quotes with this sum, the bid `apart` cents below half of it.
+fn quotes_around(sum: u32, apart: u32) -> (u32, u32) {
+    let bid = sum / 2 - apart;
+    (bid, sum - bid)
+}
+
+/// A price on a grid that steps by more than a cent there.
+struct Rung {
+    grid: u32,
+    step: u32,
+    price: u32,
+}
+
+/// Where grids step by more than a cent: the grid, its step, and how many
+/// steps up a rung may lie, with room for four more on either side.
+const STRETCHES: [(u32, u32, RangeInclusive<u32>); 3] =
+    [(2, 5, 64..=200), (3, 5, 24..=55), (3, 10, 34..=100)];
+
+/// A rung of each stretch.
+fn rungs(pen: &mut Pen) -> [Rung; 3] {
+    STRETCHES.map(|(grid, step, steps)| Rung {
+        grid,
+        step,
+        price: step * pen.dice.within(steps),
+    })
+}
+
+/// Midpoints a cent and half a cent below a step, on it, half a cent and a cent
+/// above it and in between, and one of them on the grid of single cents.
+fn midpoints_beside_a_step(pen: &mut Pen) -> io::Result<()> {
+    for Rung { grid, step, price } in rungs(pen) {
+        let twice = 2 * price;
+        let between = twice + pen.dice.within(3..=2 * step - 3);
+        let sums = [twice - 2, twice - 1, twice, twice + 1, twice + 2, between];
+        for sum in sums {
+            let apart = pen.dice.within(step..=2 * step);
+            open_in(pen, grid, (0, 0), quotes_around(sum, apart))?;
+        }
+        let sum = pen.dice.pick(&sums);
+        open_in(pen, 1, (0, 0), quotes_around(sum, step))?;
+    }
+    Ok(())
+}
+
+/// Midpoints around 300 cents, where the grids 2 and 3 turn to their wider
+/// steps, up to the first price that all grids share again.
+fn midpoints_at_the_turn(pen: &mut Pen) -> io::Result<()> {
+    for sum in [598, 599, 600, 608, 609, 610, 618, 619, 620] {
+        for grid in 1..=3 {
+            let apart = pen.dice.within(10..=30);
+            open_in(pen, grid, (0, 0), quotes_around(sum, apart))?;
+        }
+    }
+    Ok(())
+}
+
+/// Quotes of a few cents, where grid 3 has no midpoint below 5: 20 without a
+/// print and close until it has one, else the first of these that is valid.
+fn midpoints_of_a_few_cents(pen: &mut Pen) -> io::Result<()> {
+    for enough in [10, 11] {
+        unopened_in(pen, 3, (0, 0))?;
+        crossed_in(pen, 3)?;
+        for sum in 2..=9 {
+            let quotes = few_cents(pen, sum);
+            open_under(pen, quotes)?;
+        }
+        open_under(pen, (6, enough - 6))?;
+        let quotes = few_cents(pen, enough);
+        open_under(pen, quotes)?;
+    }
+    let first = pen.dice.within(0..=3);
+    for sum in 2..=11 {
+        let (bid, offer) = few_cents(pen, sum);
+        let good = pen.dice.within(bid..=offer);
+        let bad = pen.dice.pick(&[bid - 1, offer + 1]);
+        let prints = [(good, bad), (bad, good), (0, good), (bad, bad)];
+        let chosen = prints[(first + sum) as usize % prints.len()];
+        open_in(pen, 3, chosen, (bid, offer))?;
+    }
+    for grid in [1, 2] {
+        let sum = pen.dice.within(2..=9);
+        let quotes = few_cents(pen, sum);
+        open_in(pen, grid, (0, 0), quotes)?;
+    }
+    Ok(())
+}
+
+/// Quotes with this sum, the bid at most the offer.
+fn few_cents(pen: &mut Pen, sum: u32) -> (u32, u32) {
+    let bid = pen.dice.within(1..=sum / 2);
+    (bid, sum - bid)
+}
+
+/// Bids off the grid with the midpoint on the step below them: a print or a
+/// close between the quotes is taken, and with none it is 20 until the bid
+/// falls to the step.
+fn midpoints_below_the_bid(pen: &mut Pen) -> io::Result<()> {
+    for Rung { grid, step, price } in rungs(pen) {
+        let bid = price + pen.dice.within(1..=step - 1);
+        let offer = pen.dice.within(bid..=2 * (price + step) - 1 - bid);
+        let good = pen.dice.within(bid..=offer);
+        let bad = pen.dice.pick(&[price, bid - 1, offer + 1]);
+        for prints in [(good, bad), (bad, good), (0, good), (bad, 0)] {
+            open_in(pen, grid, prints, (bid, offer))?;
+        }
+        open_under(pen, (price, offer))?;
+    }
+    Ok(())
+}
+
+/// In each row of the table: quotes with half their sum further than the
+/// minimum amount from both, and the midpoint, on the step below, within it.
+/// With half the sum on the next step it is 20, and so it is on the grid of
+/// single cents.
+fn midpoints_valid_once_rounded(pen: &mut Pen) -> io::Result<()> {
+    // The grid and its step, a bid in tens of cents and its minimum amount.
+    let rows = [
+        (2, 5, 26..=49, 40),
+        (2, 5, 51..=99, 50),
+        (2, 5, 101..=199, 80),
+        (2, 5, 201..=499, 100),
+        (2, 5, 501..=999, 150),
+        (2, 5, 1_001..=90_000, 200),
+        (3, 5, 1..=19, 25),
+        (3, 5, 20..=25, 40),
+        (3, 10, 26..=49, 40),
+        (3, 10, 51..=99, 50),
+        (3, 10, 101..=199, 80),
+        (3, 10, 201..=499, 100),
+        (3, 10, 501..=999, 150),
+        (3, 10, 1_001..=90_000, 200),
+    ];
+    let mut all = Vec::new();
+    for (grid, step, tens, amount) in rows {
+        let on_step = 10 * pen.dice.within(tens);
+        let bid = on_step + pen.dice.within(0..=3);
+        let next = on_step + amount + step;
+        let sum = pen.dice.within(2 * (bid + amount + 1)..=2 * next - 1);
+        all.push((bid, sum - bid));
+        unopened_in(pen, grid, (0, 0))?;
+        crossed_in(pen, grid)?;
+        if pen.dice.chance(50) {
+            open_under(pen, (bid, 2 * next - bid))?;
+        }
+        open_under(pen, (bid, sum - bid))?;
+    }
+    unopened_in(pen, 1, (0, 0))?;
+    crossed_in(pen, 1)?;
+    for quotes in all {
+        open_under(pen, quotes)?;
+    }
+    Ok(())
+}
+
+/// Prints and closes between two steps, which are taken as they are: without a
+/// quote, with either and with two whose midpoint is not valid.
+fn prints_off_the_grid(pen: &mut Pen) -> io::Result<()> {
+    for Rung { grid, step, price } in rungs(pen) {
+        let off = price + pen.dice.within(1..=step - 1);
+        let (below, above) = (off - pen.dice.within(0..=9), off + pen.dice.within(0..=9));
+        for quotes in [(0, 0), (below, 0), (0, above), (below, below + 300)] {
+            let prints = pen.dice.pick(&[(off, 0), (off, price), (0, off)]);
+            open_in(pen, grid, prints, quotes)?;
+        }
+    }
+    Ok(())
+}
+
+/// Random books on the steps around a midpoint, so that it decides who trades
+/// and who is cancelled.
+fn random_books_on_the_grid(pen: &mut Pen) -> io::Result<()> {
+    for Rung { grid, step, price } in rungs(pen) {
+        let lowest = price - 4 * step;
+        let count = pen.dice.within(6..=14);
+        let orders: Vec<Numbers> = (0..count)
+            .map(|_| {
+                let side = pen.dice.pick(&SIDES);
+                let on_step = lowest + step * pen.dice.within(0..=8);
+                limit(side, DAY, on_step, pen.dice.within(1..=20))
+            })
+            .collect();
+        unopened_in(pen, grid, (0, 0))?;
+        let tenant = pen.tenant();
+        pen.take_all(tenant, &orders)?;
+        let sum = 2 * price + pen.dice.within(0..=2 * step - 1);
+        open_under(pen, quotes_around(sum, 2 * step))?;
     }
     Ok(())
 }

@@ -13,7 +13,9 @@ use std::collections::BTreeMap;
 use std::fmt::Write;
 
 use second::session::Session;
+use second::settings::Grid;
 use second::tape::{call, Answer, Event, Reader};
+use second::units::Cents;
 
 /// How often each outcome was reached, by name.
 #[derive(Default)]
@@ -60,6 +62,21 @@ impl Counts {
         let _ = writeln!(table, "{read}, {all} outcomes, {missed} missing");
         (table, missing.is_empty() && unlisted.is_empty())
     }
+}
+
+/// The number of a grid, told by its steps.
+fn grid_number(grid: Grid) -> u32 {
+    match (grid.step_at(Cents(299)), grid.step_at(Cents(300))) {
+        (1, 1) => 1,
+        (1, _) => 2,
+        _ => 3,
+    }
+}
+
+/// The stretch of a grid that a price lies in, on either side of the turn.
+fn stretch_name(grid: Grid, price: Cents) -> String {
+    let half = if price < Cents(300) { "below" } else { "from" };
+    format!("grid {} {half} 300", grid_number(grid))
 }
 
 /// The names of all outcomes, in the order of the table.

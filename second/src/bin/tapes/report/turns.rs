@@ -11,7 +11,7 @@ use second::session::{Accepted, Series, Turn, RECORDS};
 use second::settings::{Allocation, OptionType};
 use second::units::{total, Cents, Contracts};
 
-use super::Counts;
+use super::{grid_number, stretch_name, Counts};
 
 /// Why a number given earlier rests no more.
 #[derive(Clone, Copy)]
@@ -368,22 +368,10 @@ fn not_open(counts: &mut Counts, order: Order) {
     });
 }
 
-/// The number of the grid in use, told by its steps.
-fn grid_number(scene: &Scene) -> u32 {
-    match (
-        scene.settings.grid.step_at(Cents(299)),
-        scene.settings.grid.step_at(Cents(300)),
-    ) {
-        (1, 1) => 1,
-        (1, _) => 2,
-        _ => 3,
-    }
-}
-
 fn off_grid(counts: &mut Counts, scene: &Scene, order: Order) {
-    let low = order.limit.is_some_and(|limit| limit < Cents(300));
-    let half = if low { "below" } else { "from" };
-    counts.add(format!("11 grid {} {half} 300", grid_number(scene)));
+    if let Some(limit) = order.limit {
+        counts.add(format!("11 {}", stretch_name(scene.settings.grid, limit)));
+    }
     counts.add(match order.side {
         Side::Buy => "11 buy",
         Side::Sell => "11 sell",
@@ -600,7 +588,8 @@ fn passed_width(counts: &mut Counts, scene: &Scene) {
 
 fn converted(counts: &mut Counts, before: &Series) {
     let scene = before.scene();
-    counts.add(format!("converted on grid {}", grid_number(&scene)));
+    let grid = grid_number(scene.settings.grid);
+    counts.add(format!("converted on grid {grid}"));
     counts.add_if(scene.nbo.is_none(), "converted without an offer");
     counts.add_if(scene.nbo == Some(Cents(50)), "converted with offer 50");
     let resting = before.book().best(Side::Sell).is_some();
