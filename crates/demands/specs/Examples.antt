@@ -161,8 +161,9 @@ unfolding sumTo same lower precedes firstTo leastTo greatestTo table keyOf withi
     records recorded fieldOf written filled traded afterTrade tradeRecords tradeWritten sortKey volume bought sold matched afterFills
     buyGoes sellGoes afterOpening openingRecords openingWritten lowerOffer quotesOf notYet offGrid atStrike noOffer unbid noBid converts
     asJudged tooWide farBuy farSell farPrice mightRest noRoom usedUp turnDown buyBound boundOf beyondDrill atAway dispositionOf verdict
-    entryAt slot waitingAt distance servedBy served minimumAmount nearEither valid highestOn midpoint usable firstValid priceOf quotesOn turnRefusal afterTaking filledOf
-    dispositionIn bookAfter trades ordered dealt turnOf choiceIn wayRefusal openAt openOf _and_ _or_ isNot pick lowerIf
+    entryAt slot waitingAt distance servedBy served minimumAmount nearEither valid highestOn midpoint usable firstValid priceOf
+    quotesOn turnRefusal afterTaking filledOf dispositionIn bookAfter trades ordered dealt turnOf choiceIn wayRefusal openAt openOf
+    _and_ _or_ isNot pick lowerIf
 examples = record {
   e1 = refl;
   e2 = refl;
