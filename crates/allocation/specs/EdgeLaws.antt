@@ -7,10 +7,9 @@ use native.Mathlib.Omega.{arith}
 use Rattle.units.specs.Tests.{order, less, equal, more}
 use Rattle.units.specs.Sums.{sumTo, sum-same, sum-most, sum-none, sum-add, sum-found}
 use Rattle.units.specs.Picked.{same, lower, lower-in, lower-out, lower-grows, sum-lower-next}
-use Rattle.units.specs.Leasts.{least-top, least-most, least-floor}
-use Rattle.levels.specs.Levels.{candidate, bestFrom}
-use Rattle.levels.specs.LevelLaws.{candidate-free, candidate-low, candidate-is}
+use Rattle.levels.specs.Levels.{bestFrom}
 use Rattle.allocation.specs.Edge.{AtEdge, EdgeAt}
+use Rattle.allocation.specs.BestLaws.{best-top, best-floor, best-least}
 
 -- what stands below a key is no more than there is
 lower-most : (key : ℕ → ℕ) (c : ℕ) (size : ℕ → ℕ) (i : ℕ) → lower key c size i ≤ size i
@@ -23,39 +22,16 @@ lower-all : (key : ℕ → ℕ) (c : ℕ) (size : ℕ → ℕ) (n : ℕ) → sum
 lower-all key c size n = sum-most n (λ i _. lower-most key c size i)
 
 module _ (n top : ℕ) (key size : ℕ → ℕ) (floor : ℕ) where
-  best-top : bestFrom n top key size floor ≤ top
-  unfolding bestFrom
-  best-top = least-top top (λ i. candidate top floor (key i) (size i)) n
-
-  -- the best key from the floor on is not below it
-  best-floor : floor ≤ top → floor ≤ bestFrom n top key size floor
-  unfolding bestFrom
-  best-floor h = least-floor top (λ i. candidate top floor (key i) (size i)) n floor h λ i p.
-      elim (decLt (key i) floor) [
-        | yes q ↦ omega (arith, candidate-low top floor (key i) (size i) q)
-        | no q ↦ elim (order 0 (size i)) [
-          | less x ↦ omega (arith, candidate-is top floor (key i) (size i) x (omega arith))
-          | equal x ↦ omega (arith, candidate-free top floor (key i) (size i) (sym x))
-          | more x ↦ omega arith
-        ]
-      ]
-
-  -- nothing rests between the floor and it
-  best-least : (i : ℕ) → i < n → 0 < size i → floor ≤ key i → bestFrom n top key size floor ≤ key i
-  unfolding bestFrom
-  best-least i p x h =
-      omega (arith, least-most top (λ j. candidate top floor (key j) (size j)) n i p, candidate-is top floor (key i) (size i) x h)
-
-  -- so as much rests before it as before the floor
+  -- nothing rests between the floor and the best key from there on, so as much rests before it as before the floor
   best-before : floor ≤ top → sumTo (lower key (bestFrom n top key size floor) size) n ≡ sumTo (lower key floor size) n
   best-before h = sum-same n λ i p.
       let b = bestFrom n top key size floor in
-      let up = best-floor h in
+      let up = best-floor n top key size floor h in
       elim (decLt (key i) floor) [
         | yes q ↦ omega (arith, lower-in key b size i (omega arith), lower-in key floor size i q)
         | no q ↦ elim (decLt (key i) b) [
           | yes r ↦ elim (order 0 (size i)) [
-            | less x ↦ omega (arith, best-least i p x (omega arith))
+            | less x ↦ omega (arith, best-least n top key size floor i p x (omega arith))
             | equal x ↦ omega (arith, lower-in key b size i r, lower-out key floor size i (omega arith))
             | more x ↦ omega arith
           ]

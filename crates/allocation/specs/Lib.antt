@@ -2,10 +2,11 @@
 pub mod Ranges
 pub mod RangeLaws
 pub mod Edge
+pub mod Gathering
+pub mod BestLaws
 pub mod EdgeLaws
+pub mod GatheringLaws
 pub mod Shares
 pub mod ShareLaws
-pub mod Collecting
-pub mod CollectingLaws
 pub mod Serving
 pub mod ServingLaws

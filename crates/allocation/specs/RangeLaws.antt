@@ -1,10 +1,11 @@
 -- No key and no number is past the last and no size is too large, among the rows that an order may trade with.
+use mathlib.Core.Path.{_≡_, refl}
 use mathlib.Core.List.{List}
 use mathlib.Core.Bool.{Bool, true, false, cond, _&&_}
 use Prim.Native.Nat.{ℕ, _-_, _≤_, _<_}
 use native.Mathlib.Omega.{arith}
 use lib.Dec.{eqb}
-use Rattle.units.specs.Picked.{keep-most, same, same-found}
+use Rattle.units.specs.Picked.{keep, keep-most, same, same-found}
 use Rattle.units.specs.Places.{at}
 use Rattle.rows.specs.Rows.{rows, highest, largest, noPrice, noNumber, selling, keyOf, within, openSize}
 use Rattle.levels.specs.Levels.{keysOn, opensOn}
@@ -14,6 +15,15 @@ use Rattle.allocation.specs.Ranges.{Small, Priced, Numbered}
 pub open-most : (s bound side price size : ℕ) → openSize s bound side price size ≤ size
 unfolding openSize
 open-most s bound side price size = keep-most (eqb side s && within s price bound) size
+
+-- where some of it may be, all of it may
+pub open-whole : (s bound side price size : ℕ) → 0 < openSize s bound side price size → size ≡ openSize s bound side price size
+unfolding openSize
+open-whole s bound side price size = go (eqb side s && within s price bound)
+  where
+    go : (test : Bool) → 0 < keep test size → size ≡ keep test size
+    go true x = refl
+    go false x = absurd (omega arith)
 
 key-most : (side price : ℕ) → price ≤ highest → keyOf side price ≤ highest
 unfolding keyOf

@@ -15,3 +15,7 @@ Priced prices sizes = (i : ℕ) → i < rows → 0 < at sizes i → at prices i 
 -- no resting row is above the last order number
 abbrev pub Numbered : List ℕ → List ℕ → Type 0
 Numbered sizes numbers = (i : ℕ) → i < rows → 0 < at sizes i → at numbers i < noNumber
+
+-- of the first n gathered, no key at which something is held is from the top on
+abbrev pub KeysBelow : ℕ → ℕ → List ℕ → List ℕ → Type 0
+KeysBelow top n keys held = (j : ℕ) → j < n → 0 < at held j → at keys j < top

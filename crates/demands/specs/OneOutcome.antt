@@ -100,6 +100,7 @@ use Rattle.rows.proofs.row.wide.Reads as rows-wide
 use Rattle.rows.proofs.row.one.Reads as rows-one
 use Rattle.rows.proofs.row.key.Reads as rows-key
 use Rattle.rows.proofs.row.open_size.Reads as rows-open-size
+use Rattle.rows.proofs.row.reachable.Reads as rows-reachable
 use Rattle.rows.proofs.passes.highest_buy.Reads as rows-highest-buy
 use Rattle.rows.proofs.passes.lowest_sell.Reads as rows-lowest-sell
 use Rattle.rows.proofs.passes.resting_within.Reads as rows-resting-within
@@ -108,11 +109,7 @@ use Rattle.rows.proofs.passes.order_row.Reads as rows-order-row
 use Rattle.rows.proofs.passes.free_row.Reads as rows-free-row
 use Rattle.levels.proofs.row.precedes.Reads as levels-precedes
 use Rattle.levels.proofs.row.whole.Reads as levels-whole
-use Rattle.levels.proofs.passes.tradable_at.Reads as levels-tradable-at
-use Rattle.levels.proofs.passes.best_from.Reads as levels-best-from
-use Rattle.levels.proofs.passes.level.Reads as levels-level
-use Rattle.levels.proofs.passes.next_from.Reads as levels-next-from
-use Rattle.levels.proofs.passes.held_by.Reads as levels-held-by
+use Rattle.levels.proofs.row.tradable_at.Reads as levels-tradable-at
 use Rattle.marks.proofs.insert.Reads as marks-insert
 use Rattle.allocation.proofs.shares.by_time.Reads as allocation-by-time
 use Rattle.allocation.proofs.shares.sharing.Reads as allocation-sharing
@@ -391,6 +388,9 @@ one-rows-key κs a z z′ e e′ = same
 pub one-rows-open-size : OneResult rows-open-size.Post
 one-rows-open-size κs a z z′ e e′ p q = ap contracts (same p q)
 
+pub one-rows-reachable : OneResult rows-reachable.Post
+one-rows-reachable κs a z z′ e e′ = same
+
 pub one-rows-highest-buy : OneResult rows-highest-buy.Post
 one-rows-highest-buy κs a z z′ e e′ p q = ap cents (same p q)
 
@@ -419,18 +419,6 @@ one-levels-whole κs a z z′ e e′ p q = ap contracts (same p q)
 
 pub one-levels-tradable-at : OneResult levels-tradable-at.Post
 one-levels-tradable-at κs a z z′ e e′ p q = ap contracts (same p q)
-
-pub one-levels-best-from : OneResult levels-best-from.Post
-one-levels-best-from κs a z z′ e e′ = same
-
-pub one-levels-level : OneResult levels-level.Post
-one-levels-level κs a z z′ e e′ p q = ap total (same p q)
-
-pub one-levels-next-from : OneResult levels-next-from.Post
-one-levels-next-from κs a z z′ e e′ = same
-
-pub one-levels-held-by : OneResult levels-held-by.Post
-one-levels-held-by κs a z z′ e e′ p q = ap total (same p q)
 
 -- ---- marks
 

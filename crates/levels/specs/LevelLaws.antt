@@ -1,15 +1,15 @@
--- Laws of what a pass looks for and counts of one row.
+-- Laws of what is looked for and counted of one row.
 use mathlib.Core.Path.{_≡_, refl}
 use mathlib.Core.Bool.{Bool, true, false}
 use Prim.Native.Nat.{ℕ, _*_, _/_, _^_, _≤_, _<_}
 use native.Mathlib.Nat.{le-refl, mul-le-mul-left, mul-le-mul-right, div-le-of-le-mul, le-of-lt, lt-of-le-of-lt}
 use native.Mathlib.Decide.{decLe}
 use native.Mathlib.Omega.{arith}
-use lib.Dec.{lit<, eqb}
+use lib.Dec.{lit<}
 use borrow.Author.Tests.{lt-ltb, le-ltb, le-leb, lt-leb}
 use Rattle.units.specs.Units.{most32}
 use Rattle.units.specs.Tests.{order, less, equal, more}
-use Rattle.units.specs.Picked.{keep, same}
+use Rattle.units.specs.Picked.{keep}
 use Rattle.levels.specs.Levels.{candidate, wholeOf}
 
 module _ (top floor k size : ℕ) where
@@ -51,9 +51,3 @@ whole-none left size total h = omega (arith, whole-most left size total)
 pub whole-kept : (test : Bool) (left size total : ℕ) → keep test (wholeOf left size total) ≡ wholeOf left (keep test size) total
 whole-kept true left size total = refl
 whole-kept false left size total = whole-none left 0 total (omega arith)
-
--- what a row counts for, as a loop's body gives it
-pub held-by-term : (key size number : ℕ → ℕ) (c n i : ℕ) {r : ℕ}
-    → r ≡ keep (eqb (number i) n) (keep (eqb (key i) c) (size i)) → r ≡ same number n (same key c size) i
-unfolding same
-held-by-term key size number c n i e = e

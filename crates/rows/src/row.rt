@@ -7,6 +7,7 @@ use units::Cents;
 use units::Contracts;
 ghost use mathlib.Core.Path.{_≡_};
 ghost use Prim.Native.Nat.{_-_, min, max};
+ghost use lib.Dec.{ltb};
 ghost use Rattle.units.specs.Picked.{keep};
 ghost use Rattle.rows.specs.Rows.{keyOf, within, openSize, buyPrice, sellPrice, restsFor, isOrder};
 
@@ -93,6 +94,19 @@ pub fn open_size(side: u32, bound: Cents, row_side: u32, price: Cents, size: Con
         }
     } else {
         Contracts(0)
+    }
+}
+
+// Whether an order may trade with a row: it is on the side, within the bound, and not free.
+pub fn reachable(side: u32, bound: Cents, row_side: u32, price: Cents, size: Contracts) -> bool
+    ensures { λ r. ⌜ r ≡ ltb 0 (openSize side (bound .0) «row_side» (price .0) (size .0)) ⌝ }
+{
+    let held = 0 < size.0;
+    let near = within(side, price, bound);
+    if side == row_side {
+        if near { held } else { false }
+    } else {
+        false
     }
 }
 

@@ -1,7 +1,7 @@
--- `levels::passes::tradable_at` meets its contract, by its calls.
+-- `levels::row::tradable_at` meets its contract, by its calls.
 use borrow.Author.Needs.{needs}
-use Rattle.levels.proofs.passes.tradable_at.Statement.{statement}
-use Rattle.levels.proofs.passes.tradable_at.Tie as tie
+use Rattle.levels.proofs.row.tradable_at.Statement.{statement}
+use Rattle.levels.proofs.row.tradable_at.Tie as tie
 
 pub tradable-at-spec : {M : Type 1} → statement M
 tradable-at-spec =
