@@ -1,7 +1,6 @@
 -- `allocation::gather::best_from` meets its contract: the best key so far, and what is held there, are those of the
 -- places passed.
 use Prim.Native.Nat.{_-_}
-use native.Mathlib.Omega.{arith}
 use borrow.Author.Needs.{needs}
 use Rattle.allocation.specs.BestLaws.{BestSoFar, best-starts, best-goes-on, best-ends}
 use Rattle.units.specs.Places.{at}
