@@ -37,6 +37,7 @@ pub enum TurnedDown {
     RowsUsed = 17,
     NotRestingHere = 18,
     NumbersUsedUp = 19,
+    NeverGiven = 22,
 }
 
 impl TurnedDown {

@@ -55,6 +55,18 @@ pub struct Accepted {
     pub fills: Vec<Fill>,
 }
 
+/// What an order number is to a tenant who asks for it.
+#[derive(Clone, Copy, Debug, PartialEq, Eq)]
+pub enum Lookup {
+    /// It rests, and is this tenant's.
+    RestsHere,
+    /// An order has got it since the settings were accepted, and none of this
+    /// tenant rests under it.
+    GivenOut,
+    /// No order has got it since the settings were accepted.
+    NeverGiven,
+}
+
 /// One option series under accepted settings.
 #[derive(Clone, Debug, PartialEq, Eq)]
 pub struct Series {
@@ -219,6 +231,17 @@ impl Series {
         self.last_number
     }
 
+    /// Looks a number up for this tenant. Numbers are given in turn from 1 on,
+    /// so that all up to the last one are given out, also when the book has
+    /// nothing left of their orders.
+    pub fn lookup(&self, tenant: usize, number: u32) -> Lookup {
+        match self.book.order(number) {
+            Some(order) if order.tenant == tenant => Lookup::RestsHere,
+            _ if (1..=self.last_number).contains(&number) => Lookup::GivenOut,
+            _ => Lookup::NeverGiven,
+        }
+    }
+
     pub fn is_open(&self) -> bool {
         self.open
     }
@@ -266,17 +289,22 @@ impl Series {
     }
 
     fn take_cancel(&mut self, tenant: usize, number: u32) -> Result<Accepted, TurnedDown> {
-        self.book
-            .order(number)
-            .filter(|order| order.tenant == tenant)
-            .ok_or(TurnedDown::NotRestingHere)?;
+        match self.lookup(tenant, number) {
+            Lookup::RestsHere => Ok(self.cancel(number)),
+            Lookup::GivenOut => Err(TurnedDown::NotRestingHere),
+            Lookup::NeverGiven => Err(TurnedDown::NeverGiven),
+        }
+    }
+
+    /// Takes a resting order out of the book, by its tenant's wish.
+    fn cancel(&mut self, number: u32) -> Accepted {
         self.book.remove(number);
-        Ok(Accepted {
+        Accepted {
             number,
             filled: Contracts(0),
             disposition: Disposition::Cancelled,
             fills: Vec::new(),
-        })
+        }
     }
 
     fn take_order(&mut self, tenant: usize, given: Order) -> Result<Accepted, TurnedDown> {
@@ -375,5 +403,195 @@ impl Series {
 impl Session {
     pub(crate) fn series_mut(&mut self) -> &mut Series {
         self.series.as_mut().expect("accepted settings")
+    }
+}
+
+#[cfg(test)]
+mod tests {
+    use super::*;
+    use crate::tape::run;
+    use crate::words::make;
+
+    /// Settings of time class on grid 1, with a last print of 105.
+    const SETTINGS: &str = "settings allocation time grid 1 type call strike 10000 drill 10 \
+                            far 20 percent 10 least 25 greatest 500 print 105 close 0\n";
+
+    /// The session after a tape in words, and the lines printed.
+    fn printed(words: &str) -> (Session, String) {
+        let (mut session, mut lines) = (Session::default(), Vec::new());
+        run(&mut session, &make(words).expect("words"), &mut lines).expect("memory");
+        (session, String::from_utf8(lines).expect("lines"))
+    }
+
+    fn after(words: &str) -> Session {
+        printed(words).0
+    }
+
+    /// The code of a turn in which this tenant cancels the number. It is taken
+    /// on a copy of the session, so that many cancels are asked of the same book.
+    fn code(session: &Session, tenant: u32, number: u32) -> u32 {
+        let mut session = session.clone();
+        assert_eq!(session.submit(tenant, 1, &[3, 0, 0, 0, 0, number]), Ok(()));
+        let book = session.series_mut().book.clone();
+        let given = session.series_mut().last_number;
+        let turn = session.turn(RECORDS).expect("a turn");
+        assert_eq!(turn.tenant, tenant as usize);
+        assert_eq!(session.series_mut().last_number, given);
+        match turn.outcome {
+            Ok(accepted) => {
+                assert_eq!(accepted.number, number);
+                assert_eq!(accepted.disposition, Disposition::Cancelled);
+                0
+            }
+            Err(reason) => {
+                assert_eq!(session.series_mut().book, book);
+                reason.number()
+            }
+        }
+    }
+
+    fn codes(session: &Session, tenant: u32, numbers: &[u32]) -> Vec<u32> {
+        numbers
+            .iter()
+            .map(|number| code(session, tenant, *number))
+            .collect()
+    }
+
+    /// Before the opening and after it, which changes nothing in a book that
+    /// does not cross.
+    fn unopened_and_open(words: &str) -> [Session; 2] {
+        [after(words), after(&format!("{words}open\n"))]
+    }
+
+    #[test]
+    fn before_any_order_every_number_is_22() {
+        for session in unopened_and_open(SETTINGS) {
+            assert_eq!(codes(&session, 0, &[1, 2, 3, u32::MAX]), [22; 4]);
+        }
+    }
+
+    #[test]
+    fn numbers_below_the_next_are_given_out_and_from_it_on_never() {
+        let words = format!(
+            "{SETTINGS}submit tenant 4: buy day 1 at 90, buy day 1 at 91, sell day 1 at 99\n\
+             turn times 3\n"
+        );
+        let around = [1, 3, 4, 5, u32::MAX];
+        for session in unopened_and_open(&words) {
+            assert_eq!(codes(&session, 4, &around), [0, 0, 22, 22, 22]);
+            assert_eq!(codes(&session, 5, &around), [18, 18, 22, 22, 22]);
+        }
+    }
+
+    #[test]
+    fn entries_turned_down_and_cancels_give_no_number_out() {
+        let words = format!(
+            "{SETTINGS}submit tenant 2: buy day 1 at 90, sell now 1 at 90, cancel 1, cancel 2\n\
+             turn times 4\n"
+        );
+        for session in unopened_and_open(&words) {
+            assert_eq!(codes(&session, 2, &[1, 2, 3]), [18, 22, 22]);
+        }
+    }
+
+    #[test]
+    fn a_cancel_is_judged_at_its_turn() {
+        let mut session = after(&format!(
+            "{SETTINGS}submit tenant 3: cancel 1, buy day 1 at 90, cancel 1, cancel 1\n"
+        ));
+        let mut turn = || session.turn(RECORDS).unwrap().outcome;
+        assert_eq!(turn(), Err(TurnedDown::NeverGiven));
+        assert_eq!(turn().unwrap().number, 1);
+        assert_eq!(turn().unwrap().number, 1);
+        assert_eq!(turn(), Err(TurnedDown::NotRestingHere));
+    }
+
+    #[test]
+    fn numbers_of_the_day_before_are_22_until_given_again() {
+        let three = "submit tenant 0: buy day 1 at 90, buy day 1 at 90, buy day 1 at 90\n\
+                     turn times 3\n";
+        let yesterday = format!("{SETTINGS}{three}");
+        let refused = SETTINGS.replace("grid 1", "grid 4");
+        let same_day = after(&format!("{yesterday}{refused}"));
+        assert_eq!(codes(&same_day, 0, &[1, 3, 4]), [0, 0, 22]);
+        assert_eq!(codes(&same_day, 6, &[1, 3, 4]), [18, 18, 22]);
+        let words = format!("{yesterday}{SETTINGS}");
+        for session in unopened_and_open(&words) {
+            assert_eq!(codes(&session, 0, &[1, 2, 3, 4]), [22; 4]);
+        }
+        let again = format!("{words}submit tenant 6: sell day 1 at 99\nturn\n");
+        for session in unopened_and_open(&again) {
+            assert_eq!(codes(&session, 0, &[1, 2, 3, 4]), [18, 22, 22, 22]);
+            assert_eq!(codes(&session, 6, &[1, 2, 3, 4]), [0, 22, 22, 22]);
+        }
+    }
+
+    #[test]
+    fn orders_filled_whole_are_18_and_part_filled_ones_until_cancelled() {
+        let words = format!(
+            "{SETTINGS}open\nsubmit tenant 0: sell day 5 at 100, sell day 5 at 101\nturn times 2\n\
+             submit tenant 1: buy now 7 at 101\nturn\n"
+        );
+        let (session, lines) = printed(&words);
+        assert!(lines.ends_with("turn 1 0 3 7 0\nfill 1 0 5 100\nfill 2 0 2 101\nend\n"));
+        assert_eq!(codes(&session, 0, &[1, 2, 3, 4]), [18, 0, 18, 22]);
+        assert_eq!(codes(&session, 1, &[1, 2, 3, 4]), [18, 18, 18, 22]);
+        let (session, lines) = printed(&format!("{words}submit tenant 0: cancel 2\nturn\n"));
+        assert!(lines.ends_with("turn 0 0 2 0 5\nend\n"));
+        assert_eq!(codes(&session, 0, &[1, 2, 3, 4]), [18, 18, 18, 22]);
+    }
+
+    #[test]
+    fn orders_cancelled_at_once_are_18() {
+        let words = format!(
+            "{SETTINGS}open\nsubmit tenant 1: sell day 1 at 100\nturn\n\
+             submit tenant 0: buy now 1 at 90, buy day 3 at 115\nturn times 2\n\
+             away bid 0 offer 100\nsubmit tenant 0: buy day 1 at 100\nturn\n"
+        );
+        let (session, lines) = printed(&words);
+        let at_once = ["turn 0 0 2 0 2\n", "turn 0 0 3 1 3\n", "turn 0 0 4 0 4\n"];
+        assert!(at_once.iter().all(|line| lines.contains(line)), "{lines}");
+        assert_eq!(codes(&session, 0, &[2, 3, 4, 5]), [18, 18, 18, 22]);
+    }
+
+    #[test]
+    fn orders_gone_at_the_opening_are_18() {
+        let words = format!(
+            "{SETTINGS}submit tenant 0: buy day 5 at 110, buy day 5 at 105, sell day 4 at 104, \
+             sell day 3 at 108\nturn times 4\n"
+        );
+        let numbers = [1, 2, 3, 4, 5];
+        assert_eq!(codes(&after(&words), 0, &numbers), [0, 0, 0, 0, 22]);
+        let (session, lines) = printed(&format!("{words}open\n"));
+        assert!(lines.ends_with("fill 1 0 4 105\nfill 3 0 4 105\ngone 1\nend\n"));
+        assert_eq!(codes(&session, 0, &numbers), [18, 0, 18, 0, 22]);
+    }
+
+    #[test]
+    fn once_all_numbers_are_used_none_is_22() {
+        let mut session = after(SETTINGS);
+        session.series_mut().set_last_number(u32::MAX - 1);
+        let last_two = [u32::MAX - 1, u32::MAX];
+        assert_eq!(codes(&session, 0, &last_two), [18, 22]);
+        let two = [[1, 1, 1, 100, 1, 0]; 2].concat();
+        assert_eq!(session.submit(0, 2, &two), Ok(()));
+        assert!(session.turn(RECORDS).unwrap().outcome.is_ok());
+        let used_up = session.turn(RECORDS).unwrap().outcome;
+        assert_eq!(used_up, Err(TurnedDown::NumbersUsedUp));
+        assert_eq!(codes(&session, 0, &last_two), [18, 0]);
+        assert_eq!(codes(&session, 1, &[1, 2, 3, u32::MAX]), [18; 4]);
+    }
+
+    #[test]
+    fn a_lookup_says_which_of_three_it_is() {
+        let words = format!("{SETTINGS}submit tenant 4: buy day 1 at 90\nturn\n");
+        let mut session = after(&words);
+        let series = session.series_mut();
+        assert_eq!(series.lookup(4, 1), Lookup::RestsHere);
+        assert_eq!(series.lookup(3, 1), Lookup::GivenOut);
+        assert_eq!(series.lookup(4, 2), Lookup::NeverGiven);
+        assert_eq!(series.lookup(4, 0), Lookup::NeverGiven);
+        series.cancel(1);
+        assert_eq!(series.lookup(4, 1), Lookup::GivenOut);
     }
 }

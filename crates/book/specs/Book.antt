@@ -6,7 +6,7 @@ use lib.Dec.{leb}
 use lib.ListN.{set, replicate}
 use Rattle.units.specs.Places.{at}
 use Rattle.rows.specs.Rows.{rows, highest}
-use Rattle.rows.specs.Passes.{highestBuy, lowestSell, restingWithin, restingRows, orderRow, freeRow}
+use Rattle.rows.specs.Passes.{highestBuy, lowestSell, restingWithin, restingRows, freeRow}
 
 -- row i is what stands at place i of each column; a row of size 0 is free
 pub record Book : Type 0 where
@@ -69,10 +69,6 @@ module _ (b : Book) where
   -- how many rows a tenant has resting
   abbrev pub restingOf : ℕ → ℕ
   restingOf = restingRows (b .places) ownerAt sizeAt
-
-  -- the row of a tenant's resting order, past the last where that number does not rest or is not that tenant's
-  abbrev pub rowOf : ℕ → ℕ → ℕ
-  rowOf = orderRow (b .places) ownerAt numberAt sizeAt
 
   -- contracts that may be traded on a side within a bound
   abbrev pub withinBound : ℕ → ℕ → ℕ

@@ -1,6 +1,8 @@
 -- What the matching crate promises: the rules of document 01 about the book, as definitions, and their laws.
 pub mod Book
 pub mod Lent
+pub mod Lookup
+pub mod LookupLaws
 pub mod Allocation
 pub mod AllocationLaws
 pub mod Records

@@ -1,5 +1,6 @@
 // The matching crate: what an incoming order trades with the resting rows, what rests and what is cancelled, and the
 // fill records.
+pub mod lookup;
 pub mod quotes;
 pub mod records;
 pub mod resting;

@@ -1,11 +1,14 @@
 -- What an entry makes of what it meets.
 use mathlib.Core.List.{List}
 use Prim.Native.Nat.{ℕ, _-_}
-use lib.Dec.{ltb, eqb}
+use lib.Dec.{eqb}
 use Rattle.units.specs.declared.Cents.{Cents}
 use Rattle.units.specs.Units.{contracts}
 use Rattle.units.specs.Tests.{pick}
-use Rattle.book.specs.Book.{Book, bestBid, bestOffer, restingOf, rowOf, rested, freed}
+use Rattle.book.specs.declared.lookup.Found.{Found}
+use Rattle.book.specs.declared.lookup.Found.the-variants.{Rests as RestsIn, GivenOut, NeverGiven}
+use Rattle.book.specs.Book.{Book, bestBid, bestOffer, restingOf, rested, freed}
+use Rattle.book.specs.Lookup.{codeOf, found}
 use Rattle.book.specs.Trading.{filled, afterTrade, tradeRecords, tradeWritten}
 use Rattle.entry.specs.declared.Entry.{Entry}
 use Rattle.entry.specs.declared.Quotes.{Quotes}
@@ -34,17 +37,20 @@ standingOn f t = record { opened = f .series .opened; resting = restingOf (f .bo
 abbrev pub turnedDown : Floor → List ℕ → ℕ → Made
 turnedDown f was code = record { book = f .book; tallies = f .tallies; came = came.TurnedDown code; records = was }
 
--- Cancel: 18 unless that number rests and is that tenant's. An accepted cancel frees the row.
-abbrev pub cancelled : Floor → ℕ → List ℕ → Entry → Made
-cancelled f t was e = record {
-  book = freed (f .book) (rowOf (f .book) t (e .number));
-  tallies = f .tallies;
-  came = came.Cancelled (e .number);
-  records = was;
-}
+-- An accepted cancel frees the row.
+abbrev pub cancelled : Floor → List ℕ → Entry → ℕ → Made
+cancelled f was e row = record { book = freed (f .book) row; tallies = f .tallies; came = came.Cancelled (e .number); records = was }
 
+-- Cancel, by what the lookup of its number says: it is turned down by 18 where the number is given out and does not
+-- rest for that tenant, and by 22 where it was never given.
+abbrev pub byFound : Floor → List ℕ → Entry → Found → Made
+byFound f was e (RestsIn row) = cancelled f was e row
+byFound f was e GivenOut = turnedDown f was (codeOf GivenOut)
+byFound f was e NeverGiven = turnedDown f was (codeOf NeverGiven)
+
+-- A number is given out if it is below the one that the next accepted order is given.
 unfoldable pub cancels : Floor → ℕ → List ℕ → Entry → Made
-cancels f t was e = pick (ltb (rowOf (f .book) t (e .number)) (f .book .places)) (cancelled f t was e) (turnedDown f was 18)
+cancels f t was e = byFound f was e (found (f .book) (f .number) t (e .number))
 
 -- Before opening a day limit simply rests: it is given the number, filled 0 and disposition 1.
 unfoldable pub rests : Floor → ℕ → List ℕ → Entry → Made

@@ -5,7 +5,7 @@ use mathlib.Core.Bool.{true, false}
 use mathlib.Core.List.{List}
 use Prim.Native.Nat.{ℕ, _+_, _-_, _≤_, _<_}
 use native.Mathlib.Omega.{arith}
-use lib.Dec.{eqb, ltb}
+use lib.Dec.{eqb}
 use borrow.Author.Tests.{eq-eqb, ne-eqb, eqb-true, eqb-false}
 use Rattle.units.specs.declared.Cents.{Cents}
 use Rattle.units.specs.declared.Contracts.{Contracts}
@@ -13,7 +13,10 @@ use Rattle.units.specs.Units.{contracts, tenants}
 use Rattle.units.specs.Tests.{pick-yes, pick-no, picked, and-true, holds-not-fails}
 use Rattle.units.specs.CaseLaws.{all-fail}
 use Rattle.rows.specs.Rows.{rows, rowsATenant, noNumber, lastNumber}
-use Rattle.book.specs.Book.{Book, sideAt, priceAt, sizeAt, restingOf, rowOf, firstFree, rested, freed}
+use Rattle.book.specs.declared.lookup.Found.{Found}
+use Rattle.book.specs.declared.lookup.Found.the-variants.{Rests as RestsIn, GivenOut, NeverGiven}
+use Rattle.book.specs.Book.{Book, sideAt, priceAt, sizeAt, restingOf, firstFree, rested, freed}
+use Rattle.book.specs.Lookup.{found}
 use Rattle.book.specs.AllocationLaws.{Distinct}
 use Rattle.book.specs.Sound.{SoundBook, Uncrossed, resting}
 use Rattle.book.specs.SoundLaws.{sound-apart, trade-sound, trade-uncrossed, trade-resting, later-sound, free-sound, free-uncrossed}
@@ -37,7 +40,7 @@ use Rattle.judge.specs.VerdictLaws.{Taken, Ruled, ruled, taken-proper, rests-as
 use Rattle.tally.specs.declared.Tally.{Tally}
 use Rattle.dealing.specs.Floor.{Floor, Made, floorOf, floorAfter}
 use Rattle.dealing.specs.Settle.{opposite, talliesAfter}
-use Rattle.dealing.specs.Deal.{quotesOn, standingOn, turnedDown, cancelled, cancels, rests, filledOf, dispositionIn, bookAfter, trades, byVerdict, ordered, dealt}
+use Rattle.dealing.specs.Deal.{quotesOn, standingOn, cancelled, byFound, cancels, rests, filledOf, dispositionIn, bookAfter, trades, byVerdict, ordered, dealt}
 use Rattle.dealing.specs.Sound.{SoundTallies, Kept}
 use Rattle.dealing.specs.SumLaws.{moved}
 
@@ -69,22 +72,27 @@ module _ (f : Floor) (kept : Kept f) where
   }
 
   -- a cancel takes a row from the book, and nothing comes to rest
-  cancel-kept : (t : ℕ) (was : List ℕ) (e : Entry) → Kept (floorAfter f (cancels f t was e))
-  unfolding cancels
-  cancel-kept t was e =
+  row-freed : (was : List ℕ) (e : Entry) (row : ℕ) → Kept (floorAfter f (cancelled f was e row))
+  row-freed was e row =
       let r = kept .ready in
-      let row = rowOf (f .book) t (e .number) in
       let falls = free-takes (r .book) row in
-      picked (λ (d : Made). Kept (floorAfter f d)) (ltb row (f .book .places)) (cancelled f t was e) (turnedDown f was 18)
-      (λ _. kept-with (freed (f .book) row) (f .number) (f .tallies) (free-sound (r .book) row) (r .next-least) (r .next-most)
+      kept-with (freed (f .book) row) (f .number) (f .tallies) (free-sound (r .book) row) (r .next-least) (r .next-most)
       (record {
         long = r .tallies .long;
         turns = r .tallies .turns;
         bought = omega (arith, r .tallies .bought, falls);
         sold = omega (arith, r .tallies .sold, falls);
       })
-      (λ o. free-uncrossed (r .book) row (kept .uncrossed o)))
-      (λ _. kept)
+      (λ o. free-uncrossed (r .book) row (kept .uncrossed o))
+
+  found-kept : (was : List ℕ) (e : Entry) (x : Found) → Kept (floorAfter f (byFound f was e x))
+  found-kept was e (RestsIn row) = row-freed was e row
+  found-kept was e GivenOut = kept
+  found-kept was e NeverGiven = kept
+
+  cancel-kept : (t : ℕ) (was : List ℕ) (e : Entry) → Kept (floorAfter f (cancels f t was e))
+  unfolding cancels
+  cancel-kept t was e = found-kept was e (found (f .book) (f .number) t (e .number))
 
   module _ (t : ℕ) (tenant : t < tenants) (e : Entry) (proper : Proper e) (number-left : f .number ≤ lastNumber) where
     abbrev n : ℕ

@@ -4,6 +4,8 @@ use crate::Dealt;
 use crate::Series;
 use crate::settle::settle_in_reach;
 use book::Records;
+use book::lookup::Found;
+use book::lookup::find;
 use book::quotes::best_bid;
 use book::quotes::best_offer;
 use book::resting::free;
@@ -17,8 +19,6 @@ use judge::Judged;
 use judge::disposition::disposition;
 use judge::verdict::judge;
 use rows::Column;
-use rows::ROWS;
-use rows::passes::order_row;
 use rows::passes::resting_rows;
 use tally::Tallies;
 use units::Cents;
@@ -48,9 +48,11 @@ fn turned_down(tallies: Tallies, code: u32) -> Dealt
     }
 }
 
-// A cancel frees the row of its order, if that order rests and is the tenant's.
+// A cancel frees the row of its order, if that order rests and is the tenant's; else it is turned down by what the
+// number is.
 fn cancel(
     tallies: Tallies,
+    number: u64,
     t: usize,
     e: Entry,
     sizes: &mut Column,
@@ -60,17 +62,19 @@ fn cancel(
     requires { ⌜ t < tenants ⌝ }
     requires { ⌜ length (now sizes) ≡ rows ⌝ }
     ensures { λ r. ⌜ owning sizes owners numbers
-        (λ b c. (s : Series·given) (n : ℕ) (was : List ℕ) → madeOf r c was ≡ cancels (floorOf s tallies n b) t was e) ⌝ }
+        (λ b c. (s : Series·given) (was : List ℕ) → madeOf r c was ≡ cancels (floorOf s tallies number b) t was e) ⌝ }
 {
-    let row = order_row(owners, numbers, sizes, t as u32, e.number);
-    if row < ROWS {
-        free(row, sizes);
-        Dealt {
-            tallies: tallies,
-            came: Came::Cancelled(e.number),
+    let found = find(owners, numbers, sizes, t as u32, e.number, number);
+    match found {
+        Found::Rests(row) => {
+            free(row, sizes);
+            Dealt {
+                tallies: tallies,
+                came: Came::Cancelled(e.number),
+            }
         }
-    } else {
-        turned_down(tallies, 18)
+        Found::GivenOut => turned_down(tallies, 18),
+        Found::NeverGiven => turned_down(tallies, 22),
     }
 }
 
@@ -272,7 +276,7 @@ pub fn deal(
         ≡ dealt (met series tallies number sides prices sizes owners numbers) t (now (records .entry)) e ⌝ }
 {
     if e.kind == CANCEL {
-        cancel(tallies, t, e, sizes, owners, numbers)
+        cancel(tallies, number, t, e, sizes, owners, numbers)
     } else {
         order(
             series,

@@ -18,6 +18,7 @@ use Rattle.units.specs.Sums.{sumTo}
 use Rattle.rows.specs.Rows.{openSize}
 use Rattle.book.specs.Book.{Book, sideAt, priceAt, sizeAt, ownerAt, numberAt, bestBid, bestSell, restingOf, withinBound, rested, crosses}
 use Rattle.book.specs.Allocation.{Resting, left, level}
+pub use Rattle.book.specs.Lookup.{RestsAs, NoRow}
 use Rattle.opening.specs.Opening.{bought, sold, matched, afterFills, matchedRows}
 use Rattle.book.specs.Records.{pos, fields}
 use Rattle.book.specs.Sound.{Uncrossed}
@@ -189,13 +190,6 @@ pub record TakenBy (m : Market) (lent t : ℕ) : Type 0 where
   pub not-refused : NoneOf (turnRules m lent)
   pub lane : served (m .session .lanes) ≡ Lane t
 
--- row i is the resting order of that number, and that tenant's
-pub record RestsAs (b : Book) (t number i : ℕ) : Type 0 where
-  pub row : i < b .places
-  pub rests : 0 < sizeAt b i
-  pub tenant : ownerAt b i ≡ t
-  pub numbered : numberAt b i ≡ number
-
 -- an order is accepted with the next number
 pub record AcceptedBy (m : Market) (t : ℕ) (p : Printed) : Type 0 where
   pub filled : ℕ
@@ -215,9 +209,14 @@ pub record TurnedDownInOrder : Type 0 where
   pub row-room : (m : Market) (lent t : ℕ) (was : List ℕ) → Sound m → TakenBy m lent t → isCancel (headEntry m t) ≡ false
       → (turnPrinted m lent was ≡ turnedDownBy t 17)
       ↔ (NoneOf (take 7 (turnDownRules m t)) × (mightRest (judged m t) ≡ true) × (restingOf (m .book) t ≡ 24))
-  -- a cancel: 18 unless that number rests and is that tenant's; an accepted one gives the cancelled order's number
-  pub cancel-refused : (m : Market) (lent t : ℕ) (was : List ℕ) → TakenBy m lent t → isCancel (headEntry m t) ≡ true
-      → (turnPrinted m lent was ≡ turnedDownBy t 18) ↔ ((i : ℕ) → RestsAs (m .book) t (headEntry m t .number) i → ⊥)
+  -- A cancel: 18 where that number is given out, being below the next one, and does not rest as that tenant's; 22 where
+  -- it was never given. An accepted one gives the cancelled order's number.
+  pub cancel-given-out : (m : Market) (lent t : ℕ) (was : List ℕ) → TakenBy m lent t → isCancel (headEntry m t) ≡ true
+      → (turnPrinted m lent was ≡ turnedDownBy t 18)
+      ↔ ((headEntry m t .number < m .session .next) × NoRow (RestsAs (m .book) t (headEntry m t .number)))
+  pub cancel-never-given : (m : Market) (lent t : ℕ) (was : List ℕ) → TakenBy m lent t → isCancel (headEntry m t) ≡ true
+      → (turnPrinted m lent was ≡ turnedDownBy t 22)
+      ↔ ((m .session .next ≤ headEntry m t .number) × NoRow (RestsAs (m .book) t (headEntry m t .number)))
   pub cancel-accepted : (m : Market) (lent t : ℕ) (was : List ℕ) → TakenBy m lent t → isCancel (headEntry m t) ≡ true
       → (turnPrinted m lent was ≡ cancelledAs t (headEntry m t .number)) ↔ ((i : ℕ) × RestsAs (m .book) t (headEntry m t .number) i)
   -- once open, each disposition is given exactly in its case; 1 where none applies

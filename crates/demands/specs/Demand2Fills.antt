@@ -27,7 +27,7 @@ use Rattle.book.specs.Trading.{reach, filled as filledBy, traded, afterTrade, t
 use Rattle.book.specs.TradingLaws.{open-side, open-within, offer-within, bid-within, open-all, traded-open, traded-most, traded-side, all-traded}
 use Rattle.entry.specs.declared.Away.{Away}
 use Rattle.entry.specs.declared.Entry.{Entry}
-use Rattle.entry.specs.Entry.{isCancel, isBuy, isSell, newOrder}
+use Rattle.entry.specs.Entry.{isCancel, isBuy, isSell, newOrder, malformed}
 use Rattle.entry.specs.EntryLaws.{new-proper, new-unless-cancel}
 use Rattle.checks.specs.AsJudgedLaws.{judged-proper}
 use Rattle.judge.specs.BoundLaws.{buy-limit, buy-away, sell-limit, sell-away}
@@ -301,10 +301,13 @@ module _ (m : Market) (ready : Ready (floorOn (m .session) (m .book))) (t : ℕ)
   }
 
 -- the head entry of a lane served is well-formed
-pub new-in : (m : Market) (lent t : ℕ) → Sound m → TakenBy m lent t → isCancel (headEntry m t) ≡ false → newOrder (headEntry m t) ≡ true
-new-in m lent t sound k new =
+pub formed-in : (m : Market) (lent t : ℕ) → Sound m → TakenBy m lent t → malformed (headEntry m t) ≡ false
+formed-in m lent t sound k =
     let first = serves-first m lent t sound k in
-    new-unless-cancel (headEntry m t) (sound (set-in m lent t k) .lanes .formed t 0 (first .lane) (ltb-true 0 _ (first .waits))) new
+    sound (set-in m lent t k) .lanes .formed t 0 (first .lane) (ltb-true 0 _ (first .waits))
+
+pub new-in : (m : Market) (lent t : ℕ) → Sound m → TakenBy m lent t → isCancel (headEntry m t) ≡ false → newOrder (headEntry m t) ≡ true
+new-in m lent t sound k new = new-unless-cancel (headEntry m t) (formed-in m lent t sound k) new
 
 -- so an order that trades buys or sells
 sides-of : (m : Market) (lent t : ℕ) → Sound m → TakenBy m lent t → isCancel (headEntry m t) ≡ false → (isBuy (judged m t) ≡ true) ⊎ (isSell (judged m t) ≡ true)

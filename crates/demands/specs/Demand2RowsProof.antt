@@ -14,6 +14,7 @@ use Rattle.units.specs.Sums.{sumTo, sum-add, sum-none, sum-has}
 use Rattle.rows.specs.Rows.{rows, rowsATenant}
 use Rattle.book.specs.Book.{Book, sideAt, priceAt, sizeAt, ownerAt, numberAt, restingOf, firstFree, rested, freed}
 use Rattle.book.specs.Allocation.{Resting}
+use Rattle.book.specs.LookupLaws.{found-says}
 use Rattle.book.specs.Records.{records, written, fields}
 use Rattle.book.specs.RecordLaws.{traded-out}
 use Rattle.book.specs.RestLaws.{free-is, room-found}
@@ -37,7 +38,7 @@ use Rattle.demands.specs.TurnCases.{downBy, disposed-less, cancels, no-s
 use Rattle.demands.specs.TurnCases as turn-cases
 use Rattle.demands.specs.OpenCases as open-cases
 use Rattle.demands.specs.Demand2.{turnPrinted, OrderAccepted, TakenBy, RestsAs, judged, boundIn, onceTraded}
-use Rattle.demands.specs.Demand2Turn.{taken-by, set-in, serves-first, codeOf, tenantOf, numberOf, disposedOf, row-rests, accepted-served, accepted-rested, accepted-traded, accepted-numbered}
+use Rattle.demands.specs.Demand2Turn.{taken-by, set-in, serves-first, codeOf, tenantOf, numberOf, disposedOf, accepted-served, accepted-rested, accepted-traded, accepted-numbered}
 use Rattle.demands.specs.Demand2Fills.{new-in}
 use Rattle.demands.specs.Demand2Rows.{RowIs, RowsKept, ComesToRest, RowFreed, untraded, bookThen, WellLent, RowsRight}
 
@@ -191,17 +192,17 @@ module _ (m : Market) (lent : ℕ) (was : List ℕ) where
   cancel-freed : (t number : ℕ) → Sound m → {d : TurnDone} → Outcome m lent was d → printed (d .answer) ≡ cancelledAs t number
       → RowFreed (m .book) t number (d .market .book)
   cancel-freed t number sound (refused h) x = absurd (omega (arith, ap disposedOf x))
-  cancel-freed t number sound (taken u s (of-cancel c (cancels h))) x =
-      rw (← ap tenantOf x, ← ap numberOf x) (row-freed (sound (turn-cases.served-set m lent u s) .ready .book) u (headEntry m u .number) _ (row-rests (m .book) u (headEntry m u .number) h))
-  cancel-freed t number sound (taken u s (of-cancel c (no-such h))) x = absurd (omega (arith, ap disposedOf x))
+  cancel-freed t number sound (taken u s (of-cancel c (cancels row h))) x =
+      rw (← ap tenantOf x, ← ap numberOf x) (row-freed (sound (turn-cases.served-set m lent u s) .ready .book) u (headEntry m u .number) _ (found-says (m .book) u (headEntry m u .number) (m .session .next) .there row h))
+  cancel-freed t number sound (taken u s (of-cancel c (no-such is above))) x = absurd (omega (arith, ap disposedOf x))
   cancel-freed t number sound (taken u s (of-order c (turned-down h))) x = absurd (omega (arith, ap disposedOf x))
   cancel-freed t number sound (taken u s (of-order c (rests n o))) x = absurd (omega (arith, ap disposedOf x))
   cancel-freed t number sound (taken u s (of-order c (trades n o))) x = absurd (omega (arith, ap disposedOf x, disposed-less m u))
 
   down-leaves : (t code : ℕ) → 0 < code → {d : TurnDone} → Outcome m lent was d → printed (d .answer) ≡ turnedDownBy t code → d .market .book ≡ m .book
   down-leaves t code some (refused h) x = refl
-  down-leaves t code some (taken u s (of-cancel c (cancels h))) x = absurd (omega (arith, ap codeOf x))
-  down-leaves t code some (taken u s (of-cancel c (no-such h))) x = refl
+  down-leaves t code some (taken u s (of-cancel c (cancels row h))) x = absurd (omega (arith, ap codeOf x))
+  down-leaves t code some (taken u s (of-cancel c (no-such is above))) x = refl
   down-leaves t code some (taken u s (of-order c (turned-down h))) x = refl
   down-leaves t code some (taken u s (of-order c (rests n o))) x = absurd (omega (arith, ap codeOf x))
   down-leaves t code some (taken u s (of-order c (trades n o))) x = absurd (omega (arith, ap codeOf x))
@@ -211,8 +212,8 @@ module _ (m : Market) (lent : ℕ) (was : List ℕ) where
       → ((t number filled disposition : ℕ) → OrderAccepted (printed (d .answer)) t number filled disposition → ⊥)
       → (d .market .session .next ≡ m .session .next) × (d .records ≡ was)
   unless-order (refused h) f = (refl, refl)
-  unless-order (taken u s (of-cancel c (cancels h))) f = (refl, refl)
-  unless-order (taken u s (of-cancel c (no-such h))) f = (refl, refl)
+  unless-order (taken u s (of-cancel c (cancels row h))) f = (refl, refl)
+  unless-order (taken u s (of-cancel c (no-such is above))) f = (refl, refl)
   unless-order (taken u s (of-order c (turned-down h))) f = (refl, refl)
   unless-order (taken u s (of-order c (rests n o))) f = absurd (f _ _ _ _ (record { values = refl; no-cancel = omega arith }))
   unless-order (taken u s (of-order c (trades n o))) f = absurd (f _ _ _ _ (record { values = refl; no-cancel = disposed-less m u }))

@@ -1,20 +1,18 @@
 -- Demand 2's turns: turn-downs and dispositions, each exactly in its case.
 use mathlib.Core.Path.{_≡_, refl, sym, ap, _∙_}
-use mathlib.Core.Logic.{_↔_}
-use mathlib.Core.Bool.{Bool, true, false, _&&_, and-eq-true-iff}
+use mathlib.Core.Logic.{_↔_, Iff·trans}
+use mathlib.Core.Bool.{true, false}
 use mathlib.Core.List.{List}
 use Prim.Native.Nat.{ℕ, _+_, _-_, _<_}
 use native.Mathlib.Omega.{arith}
-use lib.Dec.{ltb, eqb}
+use lib.Dec.{eqb}
 use lib.ListN.{take}
-use borrow.Author.Tests.{lt-ltb, eq-eqb, ltb-true, eqb-true}
 use Rattle.units.specs.Units.{contracts}
 use Rattle.units.specs.Tests.{pick, holds-not-fails}
 use Rattle.units.specs.CountLaws.{one-count}
-use Rattle.units.specs.Firsts.{firstTo, first-holds, first-least}
-use Rattle.rows.specs.Rows.{isOrder}
-use Rattle.rows.specs.Passes.{orderRow}
-use Rattle.book.specs.Book.{Book, sizeAt, ownerAt, numberAt, rowOf, restingOf, rested}
+use Rattle.book.specs.Book.{restingOf, rested}
+use Rattle.book.specs.Lookup.{FoundSays, codeOf as codeFound}
+use Rattle.book.specs.LookupLaws.{found-says}
 use Rattle.book.specs.BestLaws.{OwnRow, resting-counted}
 use Rattle.entry.specs.Entry.{isCancel}
 use Rattle.checks.specs.TurnDown.{mightRest, turnDowns, turnDown}
@@ -28,7 +26,7 @@ use Rattle.session.specs.Turn.{TurnDone, Printed, refused as refusedBy, turnedD
 use Rattle.demands.specs.Runs.{headEntry}
 use Rattle.demands.specs.InOrder.{NoneOf, GivenInOrder}
 use Rattle.demands.specs.InOrderLaws.{number-in-order, Comes, by-none, by-number, comes-in-order}
-use Rattle.demands.specs.TurnCases.{valuesOf, laneTold, lane-told, downBy, filledIn, disposed-less, fillsBy, tradeDone, CancelOf, cancels, no-such, OrderOf, turned-down, rests, trades, OutcomeOf, of-cancel, of-order, first-busy, ServedAs, served-set, served-outcome, served-leaves, named, Outcome, refused, taken, outcome}
+use Rattle.demands.specs.TurnCases.{valuesOf, laneTold, lane-told, downBy, lookedUp, filledIn, disposed-less, fillsBy, tradeDone, CancelOf, cancels, no-such, OrderOf, turned-down, rests, trades, OutcomeOf, of-cancel, of-order, first-busy, ServedAs, served-set, served-outcome, served-leaves, named, Outcome, refused, taken, outcome}
 use Rattle.demands.specs.Demand2.{turnPrinted, turnFills, OrderAccepted, TakenBy, turnDownRules, judged, dispositionRules, onceTraded, RestsAs, AcceptedBy, TurnedDownInOrder}
 use Rattle.demands.specs.RulesProof.{turn-downs-read, dispositions-read}
 use Rattle.demands.specs.Demand2Refusals.{turn-taken}
@@ -118,43 +116,21 @@ row-room-is m lent t was sound k new =
 
 -- ---- cancels
 
-module _ (b : Book) (t n : ℕ) where
-  abbrev is-it : ℕ → Bool
-  is-it i = isOrder t n (ownerAt b i) (numberAt b i) (sizeAt b i)
-
-  rests-as : (i : ℕ) → i < b .places → is-it i ≡ true → RestsAs b t n i
-  unfolding isOrder
-  rests-as i p h =
-      let (front, numbered) = and-eq-true-iff (ltb 0 (sizeAt b i) && eqb (ownerAt b i) t) _ .0 h in
-      let (size, owner) = and-eq-true-iff (ltb 0 (sizeAt b i)) _ .0 front in
-      record { row = p; rests = ltb-true _ _ size; tenant = eqb-true _ _ owner; numbered = eqb-true _ _ numbered }
-
-  as-rests : (i : ℕ) → RestsAs b t n i → is-it i ≡ true
-  unfolding isOrder
-  as-rests i r = simp (lt-ltb 0 (sizeAt b i) (r .rests), eq-eqb (ownerAt b i) t (r .tenant), eq-eqb (numberAt b i) n (r .numbered))
-
-  pub row-rests : rowOf b t n < b .places → RestsAs b t n (rowOf b t n)
-  unfolding orderRow
-  row-rests h = rests-as (firstTo is-it (b .places)) h (first-holds is-it (b .places) h)
-
-  row-says : (rowOf b t n < b .places) ↔ ((i : ℕ) × RestsAs b t n i)
-  unfolding orderRow
-  row-says = (
-    λ h. (rowOf b t n, row-rests h),
-    λ (i, r). omega (arith, first-least is-it (b .places) i (r .row) (as-rests i r), r .row),
-  )
-
 module _ (m : Market) (was : List ℕ) (t : ℕ) where
   abbrev n : ℕ
   n = headEntry m t .number
 
-  cancel-no-such : {d : TurnDone} → CancelOf m was t d → (printed (d .answer) ≡ turnedDownBy t 18) ↔ ((i : ℕ) → RestsAs (m .book) t n i → ⊥)
-  cancel-no-such (cancels h) = (λ x. absurd (omega (arith, ap codeOf x)), λ f. absurd (let (i, r) = row-says (m .book) t n .0 h in f i r))
-  cancel-no-such (no-such h) = (λ x i r. omega (arith, row-says (m .book) t n .1 (i, r)), λ f. refl)
+  abbrev says : FoundSays (RestsAs (m .book) t n) (m .session .next) n (lookedUp m t)
+  says = found-says (m .book) t n (m .session .next)
 
-  cancel-found : {d : TurnDone} → CancelOf m was t d → (printed (d .answer) ≡ cancelledAs t n) ↔ ((i : ℕ) × RestsAs (m .book) t n i)
-  cancel-found (cancels h) = (λ x. row-says (m .book) t n .0 h, λ r. refl)
-  cancel-found (no-such h) = (λ x. absurd (omega (arith, ap codeOf x)), λ r. absurd (omega (arith, row-says (m .book) t n .1 r)))
+  -- a cancel is turned down by the number of what its lookup says, and accepted where that is 0
+  cancel-down : {d : TurnDone} → CancelOf m was t d → (k : ℕ) → 0 < k → (printed (d .answer) ≡ turnedDownBy t k) ↔ (codeFound (lookedUp m t) ≡ k)
+  cancel-down (cancels row h) k some = (λ x. absurd (omega (arith, ap codeOf x)), λ e. absurd (omega (arith, e, ap codeFound h)))
+  cancel-down (no-such is above) k some = (λ x. is ∙ ap codeOf x, λ e. ap (turnedDownBy t) (sym is ∙ e))
+
+  cancel-accepts : {d : TurnDone} → CancelOf m was t d → (printed (d .answer) ≡ cancelledAs t n) ↔ (codeFound (lookedUp m t) ≡ 0)
+  cancel-accepts (cancels row h) = (λ x. ap codeFound h, λ e. refl)
+  cancel-accepts (no-such is above) = (λ x. absurd (omega (arith, ap codeOf x)), λ e. absurd (omega (arith, is, e)))
 
 -- ---- accepted orders
 
@@ -189,8 +165,8 @@ module _ (m : Market) (was : List ℕ) (t number filled disposition : ℕ) where
     by-trade : m .session .opened ≡ true → TradedAs m was t d number filled disposition → AcceptedHow d
 
   accepted-how : {d : TurnDone} → OutcomeOf m was t d → OrderAccepted (printed (d .answer)) t number filled disposition → AcceptedHow d
-  accepted-how (of-cancel c (cancels h)) x = absurd (omega (arith, ap disposedOf (x .values), x .no-cancel))
-  accepted-how (of-cancel c (no-such h)) x = absurd (omega (arith, ap codeOf (x .values)))
+  accepted-how (of-cancel c (cancels row h)) x = absurd (omega (arith, ap disposedOf (x .values), x .no-cancel))
+  accepted-how (of-cancel c (no-such is above)) x = absurd (omega (arith, ap codeOf (x .values)))
   accepted-how (of-order c (turned-down h)) x = absurd (omega (arith, ap codeOf (x .values)))
   accepted-how (of-order c (rests n o)) x =
       let number-is = sym (ap numberOf (x .values)) in
@@ -258,8 +234,9 @@ turned-down-in-order = record {
   moves = λ m lent t was k. served-leaves m lent was t (served-as m lent t k) .lanes;
   order = λ m lent t was k new. down-in-order m was t (new-comes m lent was t k new);
   row-room = row-room-is;
-  cancel-refused = λ m lent t was k c. cancel-no-such m was t (cancel-comes m lent was t k c);
-  cancel-accepted = λ m lent t was k c. cancel-found m was t (cancel-comes m lent was t k c);
+  cancel-given-out = λ m lent t was k c. Iff·trans (cancel-down m was t (cancel-comes m lent was t k c) 18 (omega arith)) (says m was t .given-out);
+  cancel-never-given = λ m lent t was k c. Iff·trans (cancel-down m was t (cancel-comes m lent was t k c) 22 (omega arith)) (says m was t .never-given);
+  cancel-accepted = λ m lent t was k c. Iff·trans (cancel-accepts m was t (cancel-comes m lent was t k c)) (says m was t .rests);
   disposed = λ m lent was t number filled disposition opened is. disposed-in-order m lent was t number filled disposition is opened;
   simply-rests = λ m lent was t number filled disposition shut is. rested-simply m lent was t number filled disposition is shut;
 }

@@ -33,7 +33,7 @@ use Rattle.demands.specs.Values.{turnLine, openLine}
 use Rattle.demands.specs.Worked as example
 use Rattle.demands.specs.Worked.{takes, calls, crossing, idle, fresh-starts, crossing-reached, sell-accepted, one-record}
 use Rattle.demands.specs.Reaching as reaching
-use Rattle.demands.specs.Reaching.{ordering, unopened, forNow, early, leaving, onceOpen, rowIn, filling, busy, tenTurns}
+use Rattle.demands.specs.Reaching.{ordering, unopened, forNow, early, leaving, asked, asking, onceOpen, rowIn, filling, busy, tenTurns}
 use Rattle.demands.specs.InOrder.{ruleAt}
 use Rattle.demands.specs.SoundnessProof.{reached-sound}
 use Rattle.demands.specs.Accepted.{always-one-class}
@@ -47,6 +47,8 @@ use Rattle.demands.specs.Demand3.{turnsTaken, turnsOf, Fair}
 use Rattle.demands.specs.Demand3Proof.{demand-3}
 use Rattle.demands.specs.Tallies.{turnsBy, boughtBy, soldBy, sumSince}
 use Rattle.demands.specs.TalliesProof.{tallies-told}
+use Rattle.demands.specs.Numbers.{numbersSince, GivenIn}
+use Rattle.demands.specs.NumbersProof.{numbers-given}
 use Rattle.demands.specs.OpenBookProof.{never-locked-or-crossed}
 
 pub record Instances : Type 0 where
@@ -66,6 +68,11 @@ pub record Instances : Type 0 where
   -- Demand 2, cancels. Tenant 0's cancel of number 1 is accepted since number 1 rests and is tenant 0's.
   pub cancelled :
       (turn.printed (turnOf leaving rows blank .answer) ≡ turnLine 0 0 1 0 5) × ((i : ℕ) × RestsAs (leaving .book) 0 1 i)
+  -- Demand 2, cancels turned down. Tenant 4's cancel of number 1, which rests as tenant 0's, is 18 since number 1 was
+  -- given; that of number 5 is 22 since no turn gave it: the four orders have 1 to 4.
+  pub given-out : (turn.printed (turnOf (asking 1) rows blank .answer) ≡ turnLine 4 18 0 0 0) × GivenIn 1 fresh (asked 1)
+  pub never-given : (turn.printed (turnOf (asking 5) rows blank .answer) ≡ turnLine 4 22 0 0 0) × (GivenIn 5 fresh (asked 5) → ⊥)
+  pub numbers : numbersSince fresh ordering ≡ 1 ∷ 2 ∷ 3 ∷ 4 ∷ []
   -- Demand 2, fills. In the worked example tenant 7's sell of 3 trades with tenant 2's buy, of which 2 are left.
   pub filled :
       (turn.printed (turnOf crossing rows blank .answer) ≡ turnLine 7 0 2 3 0)
@@ -138,6 +145,20 @@ number-rests =
     let why = demand2 .turn-downs .cancel-accepted leaving rows 0 blank (taken leaving 0 (reaching.computed .cancelled) refl) (reaching.computed .cancel) in
     rw e at (why .0 (rw e (ap turn.printed (reaching.computed .cancelled))))
 
+one-given : GivenIn 1 fresh (asked 1)
+one-given =
+    let e = reaching.computed .asks-for .0 in
+    let is = reaching.computed .given-out in
+    let why = numbers-given .cancel-given-out fresh fresh-starts (asked 1) rows 4 blank (taken (asking 1) 4 is refl) (reaching.computed .asks .0) in
+    rw e at (why .0 (ap turn.printed is) .0)
+
+five-not : GivenIn 5 fresh (asked 5) → ⊥
+five-not =
+    let e = reaching.computed .asks-for .1 in
+    let is = reaching.computed .never-given in
+    let why = numbers-given .cancel-never-given fresh fresh-starts (asked 5) rows 4 blank (taken (asking 5) 4 is refl) (reaching.computed .asks .1) in
+    rw e at (why .0 (ap turn.printed is))
+
 fills-right :
     FilledRight crossing 7 3
     × RecordedRight crossing 7 blank 1 (turnOf crossing rows blank .records)
@@ -180,6 +201,9 @@ instances = record {
       demand2 .turn-downs .order early rows 4 blank (taken early 4 (reaching.computed .turned-down) refl) (reaching.computed .new-order)
       .each 0 (omega arith) .0 (ap turn.printed (reaching.computed .turned-down)) .1;
   cancelled = (ap turn.printed (reaching.computed .cancelled), number-rests);
+  given-out = (ap turn.printed (reaching.computed .given-out), one-given);
+  never-given = (ap turn.printed (reaching.computed .never-given), five-not);
+  numbers = reaching.computed .numbers;
   filled = (ap turn.printed (example.computed .trades), fills-right .0, fills-right .1, fills-right .2);
   opens = (reaching.computed .opened, opens-right);
   apart = (reaching.computed .buy-row, reaching.computed .sell-row, rows-apart);

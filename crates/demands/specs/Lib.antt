@@ -30,6 +30,8 @@ pub mod Told
 pub mod TalliesProof
 pub mod TalliesRead
 pub mod TalliesReadProof
+pub mod Numbers
+pub mod NumbersProof
 pub mod Reaching
 pub mod Instances
 pub mod Demand2Refusals

@@ -49,6 +49,7 @@ use Rattle.allocation.proofs.reach.edge_of.Reads as allocation-edge-of
 use Rattle.allocation.proofs.reach.in_line.Reads as allocation-in-line
 use Rattle.book.proofs.records.record.Reads as book-record
 use Rattle.book.proofs.resting.rest.Reads as book-rest
+use Rattle.book.proofs.lookup.find.Reads as book-find
 use Rattle.book.proofs.resting.free.Reads as book-free
 use Rattle.book.proofs.trading.remove.Reads as book-remove
 use Rattle.book.proofs.trading.trade.Reads as book-trade
@@ -456,6 +457,9 @@ one-book-best-offer κs a z z′ e e′ p q = same (p [] []) (q [] [])
 
 pub one-book-crosses : OneResult book-crosses.Post
 one-book-crosses κs a z z′ e e′ p q = same (p [] []) (q [] [])
+
+pub one-book-find : OneResult book-find.Post
+one-book-find κs a z z′ e e′ p q = same (p [] []) (q [] [])
 
 pub one-book-shares : OneResult book-shares.Post
 one-book-shares κs a z z′ e e′ = same

@@ -2,7 +2,7 @@
 -- to nine lanes in which entries wait; with what is computed of them.
 use mathlib.Core.Path.{_≡_, refl}
 use mathlib.Core.Bool.{true, false}
-use mathlib.Core.List.{List, [], _∷_}
+use mathlib.Core.List.{List, [], _∷_, _++_}
 use Prim.Native.Nat.{ℕ}
 use Rattle.units.specs.Units.{cents}
 use Rattle.units.specs.Tests.{_and_, _or_, isNot, pick}
@@ -13,9 +13,10 @@ use Rattle.units.specs.Firsts.{firstTo}
 use Rattle.units.specs.Leasts.{leastTo, greatestTo}
 use Rattle.units.specs.Places.{table}
 use Rattle.rows.specs.Rows.{rows, isOrder, keyOf, within, openSize, buyPrice, sellPrice, restsFor}
-use Rattle.rows.specs.Passes.{highestBuy, lowestSell, restingWithin, restingRows, orderRow, freeRow}
+use Rattle.rows.specs.Passes.{highestBuy, lowestSell, restingWithin, restingRows, freeRow}
 use Rattle.book.specs.Book.{Book, sideAt, priceAt, sizeAt, bestOffer, crosses, rested}
 use Rattle.book.specs.Allocation.{classOf, before, earlier, left, fill}
+use Rattle.book.specs.Lookup.{foundBy, found}
 use Rattle.book.specs.Records.{sortKey, soonerThan, pos, ofTraded, records}
 use Rattle.opening.specs.Opening.{volume, bought, sold, matched, afterFills, buyGoes, sellGoes, afterOpening, openingRecords}
 use Rattle.tally.specs.Tallies.{addedFrom}
@@ -43,6 +44,7 @@ use Rattle.demands.specs.Runs.{Call, settings, away, submit, turn, openi
 use Rattle.demands.specs.Values.{openLine}
 use Rattle.demands.specs.Worked.{takes}
 use Rattle.demands.specs.Demand3.{turnsTaken, NoReset, WaitsBeforeEach}
+use Rattle.demands.specs.Numbers.{numbersSince}
 
 -- ---- before the opening of E11
 
@@ -75,6 +77,13 @@ early = after unopened (submit 4 1 forNow ∷ [])
 -- tenant 0's cancel of number 1 waits before the opening
 abbrev pub leaving : Market
 leaving = after unopened (submit 0 1 (3 ∷ 0 ∷ 0 ∷ 0 ∷ 0 ∷ 1 ∷ []) ∷ [])
+
+-- tenant 4's cancel of a number waits before the opening: 1 is tenant 0's, and 5 the next one
+abbrev pub asked : ℕ → List Call
+asked n = ordering ++ (submit 4 1 (3 ∷ 0 ∷ 0 ∷ 0 ∷ 0 ∷ n ∷ []) ∷ [])
+
+abbrev pub asking : ℕ → Market
+asking n = after fresh (asked n)
 
 abbrev pub onceOpen : Market
 onceOpen = after unopened (opening rows blank ∷ [])
@@ -133,6 +142,12 @@ pub record Computed : Type 0 where
   pub cancel : isCancel (headEntry leaving 0) ≡ true
   pub cancels-first : headEntry leaving 0 .number ≡ 1
   pub cancelled : turnOf leaving rows blank .answer ≡ turn-answer.Cancelled 0 1
+  -- number 1 is given out, and number 5 never was: the four orders have the first four
+  pub asks : (isCancel (headEntry (asking 1) 4) ≡ true) × (isCancel (headEntry (asking 5) 4) ≡ true)
+  pub asks-for : (headEntry (asking 1) 4 .number ≡ 1) × (headEntry (asking 5) 4 .number ≡ 5)
+  pub given-out : turnOf (asking 1) rows blank .answer ≡ turn-answer.TurnedDown 4 18
+  pub never-given : turnOf (asking 5) rows blank .answer ≡ turn-answer.TurnedDown 4 22
+  pub numbers : numbersSince fresh ordering ≡ 1 ∷ 2 ∷ 3 ∷ 4 ∷ []
   -- the book crosses, and opens at 105 with a volume of 4
   pub crossed : crosses (unopened .book) ≡ true
   pub opened : printed (openOf unopened rows blank .answer) ≡ openLine 0 105 4
@@ -146,7 +161,7 @@ pub record Computed : Type 0 where
 
 pub computed : Computed
 unfolding sumTo same lower precedes firstTo leastTo greatestTo table keyOf within openSize buyPrice sellPrice restsFor highestBuy lowestSell
-    restingWithin restingRows isOrder orderRow freeRow bestOffer crosses rested classOf before earlier left fill sortKey soonerThan pos ofTraded records
+    restingWithin restingRows isOrder freeRow foundBy found bestOffer crosses rested classOf before earlier left fill sortKey soonerThan pos ofTraded records
     volume bought sold matched afterFills buyGoes sellGoes afterOpening openingRecords oneOrTwo from1to seriesInRange protectionsInRange
     printsInRange inRange priced newOrder cancelling malformed lowerOffer quotesOf notYet offGrid atStrike noOffer unbid noBid converts asJudged
     tooWide farBuy farSell farPrice mightRest noRoom usedUp turnDown verdict entryAt slot waitingAt put putAll joined taken distance servedBy
@@ -159,6 +174,11 @@ computed = record {
   cancel = refl;
   cancels-first = refl;
   cancelled = refl;
+  asks = (refl, refl);
+  asks-for = (refl, refl);
+  given-out = refl;
+  never-given = refl;
+  numbers = refl;
   crossed = refl;
   opened = refl;
   buy-row = refl;

@@ -6,6 +6,7 @@ use Prim.Native.Nat.{ℕ}
 use lib.Dec.{ltb, eqb}
 use lib.ListN.{length}
 use Rattle.units.specs.declared.Cents.{Cents}
+use Rattle.units.specs.Tests.{pick}
 use Rattle.rows.specs.Rows.{rows}
 use Rattle.entry.specs.declared.Entry.{Entry}
 use Rattle.entry.specs.declared.Settings.{Settings}
@@ -112,6 +113,11 @@ resets (away bid offer) a = false
 resets (submit tenant count ns) a = false
 resets (turn lent was) a = false
 resets (opening lent was) a = false
+
+-- What a run makes of x: f at each call, with the market before it; from none again at each accepted settings.
+abbrev pub since : {A : Type 0} → (Market → Call → A → A) → A → A → Market → List Call → A
+since f none x m [] = x
+since f none x m (c ∷ cs) = since f none (pick (resets c (step m c .answer)) none (f m c x)) (step m c .market) cs
 
 -- A new session beside any columns of 216 rows and any numbers in the lanes' entries.
 pub record Start (m : Market) : Type 0 where

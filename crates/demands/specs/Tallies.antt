@@ -2,7 +2,7 @@
 -- answers and the fill records of the calls since the last accepted settings say, the opening's included; and as much
 -- is bought as sold, in every call and in every reached market.
 use mathlib.Core.Path.{_≡_}
-use mathlib.Core.List.{List, [], _∷_}
+use mathlib.Core.List.{List}
 use Prim.Native.Nat.{ℕ, _+_, _<_}
 use lib.Dec.{leb, ltb}
 use Rattle.units.specs.Units.{tenants}
@@ -16,7 +16,7 @@ use Rattle.tally.specs.Tallies.{tallyAt, onlyFor, boughtInAll, soldInAll}
 use Rattle.session.specs.declared.TurnAnswer.the-variants as turn-answer
 use Rattle.session.specs.declared.OpenAnswer.the-variants as open-answer
 use Rattle.session.specs.Market.{Market}
-use Rattle.demands.specs.Runs.{Call, Answer, coded, turned, opened, step, after, laneIn, headEntry, resets, Start, Reached}
+use Rattle.demands.specs.Runs.{Call, Answer, coded, turned, opened, step, after, since, laneIn, headEntry, Start, Reached}
 
 -- contracts of tenant u in the first n fill records, where f is what counts of each
 abbrev pub inRecords : List ℕ → (ℕ → ℕ) → ℕ → ℕ → ℕ
@@ -66,8 +66,7 @@ soldBy u m c = soldIn m (step m c .answer) (step m c .records) u
 
 -- the sum of f over the calls of a run, added to what was there before it; it begins anew at each accepted settings
 abbrev pub sumSince : (Market → Call → ℕ) → ℕ → Market → List Call → ℕ
-sumSince f before m [] = before
-sumSince f before m (c ∷ cs) = sumSince f (pick (resets c (step m c .answer)) 0 (before + f m c)) (step m c .market) cs
+sumSince f = since (λ m c before. before + f m c) 0
 
 pub record Tallies : Type 0 where
   -- for every run from a start

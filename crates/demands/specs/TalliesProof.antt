@@ -1,8 +1,8 @@
 -- The tallies as sums: each call adds to each tenant's tally what its answer and its records say, and as much bought as
 -- sold.
 use mathlib.Core.Path.{_≡_, refl, sym, ap, ap₂, _∙_}
-use mathlib.Core.Bool.{Bool, true, false, true≢false, false≢true}
-use mathlib.Core.List.{List, [], _∷_}
+use mathlib.Core.Bool.{Bool, true, false, true≢false}
+use mathlib.Core.List.{List, []}
 use Prim.Native.Nat.{ℕ, _+_, _<_}
 use native.Mathlib.Decide.{ℕ-discrete}
 use native.Mathlib.Nat.{add-zero, zero-add}
@@ -40,7 +40,7 @@ use Rattle.demands.specs.TurnCases as turn-cases
 use Rattle.demands.specs.TurnCases.{turnCounted, restDone, OutcomeOf, of-cancel, of-order, cancels, no-such, turned-down, rests, trades}
 use Rattle.demands.specs.OpenCases as open-cases
 use Rattle.demands.specs.Demand2.{judged, boundIn}
-use Rattle.demands.specs.RunLaws.{reached-has}
+use Rattle.demands.specs.RunLaws.{reached-has, reset-to, run-since}
 use Rattle.demands.specs.SoundnessProof.{Stands, start-stands, step-stands, reached-stands}
 use Rattle.demands.specs.Tallies.{inRecords, boughtIn, soldIn, turnsBy, boughtBy, soldBy, sumSince, Tallies}
 use Rattle.demands.specs.Told.{trade-told, trade-all, bought-told, sold-told, bought-all, sold-all}
@@ -147,11 +147,6 @@ set-counts : (m : Market) (given : Settings) {d : Called} → resets (settings g
 set-counts m given r (outcomes.refused none) = none-counts m m 7 refl
 set-counts m given r (outcomes.accepted g e h) = absurd (true≢false r)
 
--- an accepted settings empties the tallies
-set-resets : (m : Market) (given : Settings) {d : Called} → resets (settings given) (coded (d .code)) ≡ true → SetCame m given d → d .market .session .tallies ≡ noTallies
-set-resets m given r (outcomes.refused none) = absurd (false≢true r)
-set-resets m given r (outcomes.accepted g e h) = refl
-
 -- the one or the other of two that are 0
 either-none : (x : Bool) {a b : ℕ} → a ≡ 0 → b ≡ 0 → pick x a b ≡ 0
 either-none x = picked-of-both (λ k. k ≡ 0) x _ _
@@ -162,8 +157,8 @@ module _ (m : Market) (stands : Stands m) where
     counted-once = taken-adds (m .session .tallies) t (stands .shaped .tallies-long)
 
     taken-counts : {d : TurnDone} → OutcomeOf m was t d → TurnCounts m d
-    taken-counts (of-cancel c (cancels h)) = record { adds = counted-once; even = refl }
-    taken-counts (of-cancel c (no-such h)) = record { adds = counted-once; even = refl }
+    taken-counts (of-cancel c (cancels row h)) = record { adds = counted-once; even = refl }
+    taken-counts (of-cancel c (no-such is above)) = record { adds = counted-once; even = refl }
     taken-counts (of-order c (turned-down h)) = record { adds = counted-once; even = refl }
     -- an order that rests at once has nothing filled and no record
     taken-counts (of-order c (rests n o)) =
@@ -214,12 +209,9 @@ module _ (m : Market) (stands : Stands m) where
   step-counts (turn lent was) r = turn-counts lent was (turn-cases.outcome m lent was)
   step-counts (opening lent was) r = open-counts lent was (open-cases.outcome m lent was)
 
-  step-resets : (c : Call) → resets c (step m c .answer) ≡ true → step m c .market .session .tallies ≡ noTallies
-  step-resets (settings given) r = set-resets m given r (set-came m given)
-  step-resets (away bid offer) r = absurd (false≢true r)
-  step-resets (submit tenant count ns) r = absurd (false≢true r)
-  step-resets (turn lent was) r = absurd (false≢true r)
-  step-resets (opening lent was) r = absurd (false≢true r)
+-- accepted settings empty the tallies
+step-resets : (m : Market) (c : Call) → resets c (step m c .answer) ≡ true → step m c .market .session .tallies ≡ noTallies
+step-resets m c r = ap (λ (x : Market). x .session .tallies) (reset-to m c r .1)
 
 no-tally : (u : ℕ) → u < tenants → tallyAt noTallies u ≡ tallies.zero
 no-tally u = getD-replicate {A = Tally} tenants u tallies.zero tallies.zero
@@ -227,23 +219,26 @@ no-tally u = getD-replicate {A = Tally} tenants u tallies.zero tallies.zero
 -- a number of the tallies, and what each call counts for it
 module _ (field : Tally → ℕ) (part : ℕ → Market → Call → ℕ) (nothing : field tallies.zero ≡ 0)
     (is : (x : Tally) (u : ℕ) (m : Market) (c : Call) → field (plus x (turnsBy u m c) (boughtBy u m c) (soldBy u m c)) ≡ field x + part u m c) where
-  step-sums : (m : Market) → Stands m → (c : Call) (u : ℕ) → u < tenants → (x : Bool) → resets c (step m c .answer) ≡ x
-      → field (tallyAt (step m c .market .session .tallies) u) ≡ pick x 0 (field (tallyAt (m .session .tallies) u) + part u m c)
-  unfolding pick
-  step-sums m stands c u h true r = ap (λ (x : List Tally). field (tallyAt x u)) (step-resets m stands c r) ∙ (ap field (no-tally u h) ∙ nothing)
-  step-sums m stands c u h false r = ap field (step-counts m stands c r .adds u h) ∙ is (tallyAt (m .session .tallies) u) u m c
+  module _ (u : ℕ) (h : u < tenants) where
+    record Sums (m : Market) (n : ℕ) : Type 0 where
+      stands : Stands m
+      is-sum : field (tallyAt (m .session .tallies) u) ≡ n
 
-  run-sums : (m : Market) → Stands m → (cs : List Call) (u : ℕ) → u < tenants → (n : ℕ) → field (tallyAt (m .session .tallies) u) ≡ n
-      → field (tallyAt (after m cs .session .tallies) u) ≡ sumSince (part u) n m cs
-  run-sums m stands [] u h n e = e
-  run-sums m stands (c ∷ cs) u h n e =
-      run-sums (step m c .market) (step-stands m c stands) cs u h _
-      (rw e at (step-sums m stands c u h (resets c (step m c .answer)) refl))
+    none-sum : field (tallyAt noTallies u) ≡ 0
+    none-sum = ap field (no-tally u h) ∙ nothing
 
-  start-sums : (m : Market) → Start m → (cs : List Call) (u : ℕ) → u < tenants → field (tallyAt (after m cs .session .tallies) u) ≡ sumSince (part u) 0 m cs
-  start-sums m s cs u h =
-      run-sums m (start-stands m s) cs u h 0
-      (ap (λ (x : Session). field (tallyAt (x .tallies) u)) (s .new) ∙ (ap field (no-tally u h) ∙ nothing))
+    start-sums : (m : Market) → Start m → (cs : List Call) → field (tallyAt (after m cs .session .tallies) u) ≡ sumSince (part u) 0 m cs
+    start-sums m s cs =
+        run-since (λ m c before. before + part u m c) 0 Sums
+        (λ m c r n k. record {
+          stands = step-stands m c (k .stands);
+          is-sum = ap (λ (x : List Tally). field (tallyAt x u)) (step-resets m c r) ∙ none-sum;
+        })
+        (λ m c r n k. record {
+          stands = step-stands m c (k .stands);
+          is-sum = ap field (step-counts m (k .stands) c r .adds u h) ∙ (is (tallyAt (m .session .tallies) u) u m c ∙ ap (λ x. x + part u m c) (k .is-sum));
+        })
+        m cs 0 (record { stands = start-stands m s; is-sum = ap (λ (x : Session). field (tallyAt (x .tallies) u)) (s .new) ∙ none-sum }) .is-sum
 
 -- as much bought as sold
 none-even : boughtInAll noTallies ≡ soldInAll noTallies
@@ -255,7 +250,7 @@ record Even (m : Market) : Type 0 where
 
 step-even : (m : Market) → Stands m → (c : Call) (x : Bool) → resets c (step m c .answer) ≡ x
     → boughtInAll (m .session .tallies) ≡ soldInAll (m .session .tallies) → boughtInAll (step m c .market .session .tallies) ≡ soldInAll (step m c .market .session .tallies)
-step-even m stands c true r e = rw (step-resets m stands c r) none-even
+step-even m stands c true r e = rw (step-resets m c r) none-even
 step-even m stands c false r e =
     let counts = step-counts m stands c r in
     let xs = m .session .tallies in
@@ -278,9 +273,9 @@ call-even m stands (opening lent was) = open-counts m stands lent was (open-case
 
 pub tallies-told : Tallies
 tallies-told = record {
-  turns = start-sums (λ x. x .turns) turnsBy refl (λ x u m c. refl);
-  bought = start-sums (λ x. x .bought) boughtBy refl (λ x u m c. refl);
-  sold = start-sums (λ x. x .sold) soldBy refl (λ x u m c. refl);
+  turns = λ m s cs u h. start-sums (λ x. x .turns) turnsBy refl (λ x u m c. refl) u h m s cs;
+  bought = λ m s cs u h. start-sums (λ x. x .bought) boughtBy refl (λ x u m c. refl) u h m s cs;
+  sold = λ m s cs u h. start-sums (λ x. x .sold) soldBy refl (λ x u m c. refl) u h m s cs;
   each-call = λ m r. call-even m (reached-stands m r);
   in-all = reached-even;
 }

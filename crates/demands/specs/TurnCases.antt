@@ -3,14 +3,17 @@
 use mathlib.Core.Path.{_≡_, refl, sym, ap, _∙_, subst}
 use mathlib.Core.Bool.{true, false, true≢false}
 use mathlib.Core.List.{List}
-use Prim.Native.Nat.{ℕ, _+_, _-_, _≤_, _<_}
+use Prim.Native.Nat.{ℕ, _+_, _-_, _<_}
 use native.Mathlib.Omega.{arith}
 use lib.Dec.{ltb, eqb}
 use lib.ListN.{length}
 use borrow.Author.Tests.{ltb-true, ltb-false}
 use Rattle.units.specs.Units.{contracts, tenants}
 use Rattle.units.specs.Tests.{pick, picked, picked-of-both, not-false}
-use Rattle.book.specs.Book.{Book, rowOf, freed, rested}
+use Rattle.book.specs.declared.lookup.Found.{Found}
+use Rattle.book.specs.declared.lookup.Found.the-variants as looked
+use Rattle.book.specs.Book.{Book, freed, rested}
+use Rattle.book.specs.Lookup.{found, codeOf}
 use Rattle.book.specs.Trading.{filled, afterTrade, tradeRecords, tradeWritten}
 use Rattle.entry.specs.Entry.{isCancel, isBuy}
 use Rattle.entry.specs.Quotes.{quotesOf}
@@ -31,7 +34,7 @@ use Rattle.tally.specs.Tallies.{counted}
 use Rattle.tally.specs.TallyLaws.{added-length}
 use Rattle.dealing.specs.Floor.{Floor, Made}
 use Rattle.dealing.specs.Settle.{opposite, talliesAfter}
-use Rattle.dealing.specs.Deal.{quotesOn, filledOf, dispositionIn, bookAfter, byVerdict, ordered, dealt}
+use Rattle.dealing.specs.Deal.{quotesOn, filledOf, dispositionIn, bookAfter, byFound, byVerdict, ordered, dealt}
 use Rattle.dealing.specs.Deal.{cancels as cancelMade, rests as restMade, trades as tradeMade}
 use Rattle.session.specs.declared.TurnAnswer.{TurnAnswer}
 use Rattle.session.specs.declared.TurnAnswer.the-variants as answer
@@ -90,9 +93,9 @@ module _ (m : Market) (t : ℕ) where
   abbrev pub downBy : ℕ
   downBy = turnDown (headEntry m t) (quotesIn m) (m .session .terms) (standingOf m t)
 
-  -- the row of the order that a cancel names
-  abbrev pub cancelRow : ℕ
-  cancelRow = rowOf (m .book) t (headEntry m t .number)
+  -- what the lookup of the number that a cancel names says
+  abbrev pub lookedUp : Found
+  lookedUp = found (m .book) (m .session .next) t (headEntry m t .number)
 
   -- of an order that trades: what is filled, its disposition, how many records are written, and the book left
   abbrev pub filledIn : ℕ
@@ -121,9 +124,9 @@ module _ (m : Market) (t : ℕ) where
     downDone n = record { market = onceTaken; answer = answer.TurnedDown t n; records = was }
 
     -- an accepted cancel
-    abbrev pub cancelDone : TurnDone
-    cancelDone = record {
-      market = leftWith m t (freed (m .book) cancelRow) (m .session .next) turnCounted;
+    abbrev pub cancelDone : ℕ → TurnDone
+    cancelDone row = record {
+      market = leftWith m t (freed (m .book) row) (m .session .next) turnCounted;
       answer = answer.Cancelled t (headEntry m t .number);
       records = was;
     }
@@ -149,10 +152,10 @@ module _ (m : Market) (t : ℕ) where
 
 -- a taken turn of tenant t
 module _ (m : Market) (was : List ℕ) (t : ℕ) where
-  -- of a cancel: the order rests as its tenant's, or none does
+  -- of a cancel: the order rests as its tenant's in a row; or none does, and it is turned down by what the number is
   pub data CancelOf : TurnDone → Type 0 where
-    cancels : cancelRow m t < m .book .places → CancelOf (cancelDone m t was)
-    no-such : m .book .places ≤ cancelRow m t → CancelOf (downDone m t was 18)
+    cancels : (row : ℕ) → lookedUp m t ≡ looked.Rests row → CancelOf (cancelDone m t was row)
+    no-such : {code : ℕ} → codeOf (lookedUp m t) ≡ code → 0 < code → CancelOf (downDone m t was code)
 
   -- of a new order: turned down, or before the opening at rest, or once open traded
   pub data OrderOf : TurnDone → Type 0 where
@@ -171,10 +174,15 @@ module _ (m : Market) (was : List ℕ) (t : ℕ) where
   abbrev floor : Floor
   floor = floorOn (taking .session) (m .book)
 
+  by-found : (x : Found) → lookedUp m t ≡ x → CancelOf (turnMade taking t (byFound floor was (headEntry m t) x))
+  unfolding afterTaking
+  by-found (looked.Rests row) is = cancels row is
+  by-found looked.GivenOut is = no-such (ap codeOf is) (omega arith)
+  by-found looked.NeverGiven is = no-such (ap codeOf is) (omega arith)
+
   cancel-of : CancelOf (turnMade taking t (cancelMade floor t was (headEntry m t)))
   unfolding cancelMade afterTaking
-  cancel-of =
-      picked (λ (d : Made). CancelOf (turnMade taking t d)) (ltb (cancelRow m t) (m .book .places)) _ _ (λ h. cancels (ltb-true _ _ h)) (λ h. no-such (ltb-false _ _ h))
+  cancel-of = by-found (lookedUp m t) refl
 
   by-verdict : (v : Judged) → Ruled (headEntry m t) (quotesIn m) (m .session .terms) (standingOf m t) v → OrderOf (turnMade taking t (byVerdict floor t was v))
   unfolding restMade tradeMade filledOf dispositionIn bookAfter quotesOn afterTaking
@@ -235,8 +243,8 @@ module _ (m : Market) (was : List ℕ) (t : ℕ) where
 
   pub leaves : {d : TurnDone} → OutcomeOf m was t d → Leaves m was t d
   unfolding rested freed
-  leaves (of-cancel c (cancels h)) = left _ _ _ _ _ refl refl refl counted-long (λ k. absurd (omega arith))
-  leaves (of-cancel c (no-such h)) = left _ _ _ _ _ refl refl refl counted-long (λ k. (refl, refl))
+  leaves (of-cancel c (cancels row h)) = left _ _ _ _ _ refl refl refl counted-long (λ k. absurd (omega arith))
+  leaves (of-cancel c (no-such is above)) = left _ _ _ _ _ refl refl refl counted-long (λ k. (refl, refl))
   leaves (of-order c (turned-down h)) = left _ _ _ _ _ refl refl refl counted-long (λ k. (refl, refl))
   leaves (of-order c (rests n o)) = left _ _ _ _ _ refl refl refl counted-long (λ k. absurd (omega arith))
   leaves (of-order c (trades n o)) = left _ _ _ _ _ refl refl traded-places traded-long (λ k. absurd (omega arith))

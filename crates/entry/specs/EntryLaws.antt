@@ -4,8 +4,8 @@ use mathlib.Core.Logic.{_⊎_, inl, inr, ⊎-elim}
 use mathlib.Core.Bool.{true, false}
 use Prim.Native.Nat.{_≤_}
 use native.Mathlib.Omega.{arith}
-use lib.Dec.{eqb}
-use borrow.Author.Tests.{eqb-true}
+use lib.Dec.{leb, eqb}
+use borrow.Author.Tests.{eqb-true, leb-true}
 use Rattle.units.specs.Tests.{_and_, and-true, or-true, or-first, not-false}
 use Rattle.rows.specs.Rows.{highest, largest}
 use Rattle.entry.specs.declared.Entry.{Entry}
@@ -65,6 +65,16 @@ new-proper e h =
       size-least = size .0;
       size-most = size .1;
     }
+
+-- a well-formed cancel names a number of 1 or more
+pub cancel-numbered : (e : Entry) → malformed e ≡ false → isCancel e ≡ true → 1 ≤ e .number
+unfolding cancelling
+cancel-numbered e h c =
+    let kind = eqb-true (e .kind) 3 c in
+    ⊎-elim
+    (λ new. ⊎-elim (λ l. absurd (omega (arith, eqb-true (e .kind) 1 l))) (λ m. absurd (omega (arith, eqb-true (e .kind) 2 m))) (new-proper e new .kinded))
+    (λ k. leb-true 1 (e .number) (and-true (isCancel e) _ (and-true (isCancel e and leb 1 (e .number)) _ k .0) .1))
+    (well-formed e h)
 
 -- its side is 1 or 2
 pub side-bounds : (e : Entry) → Proper e → (1 ≤ e .side) × (e .side ≤ 2)

@@ -42,7 +42,7 @@ entry-few : (f : Floor) (t : ℕ) (e : Entry) (was : List ℕ) → fillsIn (answ
 unfolding rests trades tradeRecords
 entry-few f t e = dealt-by f t e (λ d. (was : List ℕ) → fillsIn (answerOf t (d was .came)) ≤ f .book .places)
     (λ code was. omega arith)
-    (λ was. omega arith)
+    (λ row was. omega arith)
     (λ o was. omega arith)
     (λ o bound was. records-most _)
 

@@ -75,7 +75,7 @@ module _ (was was′ : List ℕ) where
   unfolding rests trades tradeRecords tradeWritten
   entry-alike m f t e = dealt-by f t e (λ d. Alike fillsIn (turnMade m t (d was)) (turnMade m t (d was′)))
       (λ code. none-written fillsIn _ _ was was′ refl)
-      (none-written fillsIn _ _ was was′ refl)
+      (λ row. none-written fillsIn _ _ was was′ refl)
       (λ o. none-written fillsIn _ _ was was′ refl)
       (λ o bound. record { market = refl; answer = refl; records = λ k l. written-same _ _ _ was was′ k l })
 

@@ -91,7 +91,10 @@ pub const FLAVOURS: [Flavour; 17] = [
         "turned-down",
         "each reason to turn an entry down",
         0,
-        |pen, _| play(pen, &turned_down::ALL),
+        |pen, _| {
+            play(pen, &turned_down::ALL)?;
+            play(pen, &turned_down::CANCELS)
+        },
     ),
     flavour(
         "dispositions",

@@ -1,10 +1,9 @@
--- `dealing::deal::cancel` meets its contract, by whether the tenant's order rests.
+-- `dealing::deal::cancel` meets its contract, by what the lookup of its number says.
 use mathlib.Core.Path.{_∙_}
-use native.Mathlib.Omega.{arith}
 use borrow.Author.Needs.{needs}
 use Rattle.book.specs.Book.{bookOf}
 use Rattle.dealing.specs.Floor.{floorOf}
-use Rattle.dealing.specs.DealLaws.{cancelled-is, not-cancelled}
+use Rattle.dealing.specs.DealLaws.{by-found, cancelled-is}
 use Rattle.dealing.proofs.deal.cancel.Statement.{statement}
 use Rattle.dealing.proofs.deal.cancel.Tie as tie
 
@@ -12,12 +11,18 @@ pub cancel-spec : {M : Type 1} → statement M
 cancel-spec =
     tie.close
     (tie.spec
-    (λ c. omega arith)
+    (λ c. search needs)
     (λ c κs. search needs)
+    (λ c. search needs)
     (λ c κs. search needs)
+    (λ c. search needs)
     (λ c κs. search needs)
-    (λ c. λ sides prices s n was.
-    cancelled-is (floorOf s _ n (bookOf sides prices _ _ _)) _ was _ _ _ (c .before .before .before .order-row .ensures)
-    (c .before .before .if1 .taken) (c .free .ensures sides prices _ _))
-    (λ c. λ sides prices s n was. c .turned-down .ensures s n _ was ∙
-    not-cancelled (floorOf s _ n (bookOf sides prices _ _ _)) _ was _ _ (c .before .before .order-row .ensures) (c .before .if1 .left)))
+    (λ c. search needs)
+    (λ c κs. search needs)
+    (λ c. λ sides prices s was.
+    cancelled-is (floorOf s _ _ (bookOf sides prices _ _ _)) _ was _ _ _ _ (c .before .before .before .before .before .find .ensures sides prices)
+    (c .before .before .before .found .given .1) (c .free .ensures sides prices _ _))
+    (λ c. λ sides prices s was. c .turned-down .ensures s 0 _ was
+    ∙ by-found (floorOf s _ _ (bookOf sides prices _ _ _)) _ was _ _ _ (c .before .before .before .find .ensures sides prices) (c .before .enum-told .given .1))
+    (λ c. λ sides prices s was. c .turned-down2 .ensures s 0 _ was
+    ∙ by-found (floorOf s _ _ (bookOf sides prices _ _ _)) _ was _ _ _ (c .before .before .before .find .ensures sides prices) (c .before .enum-told2 .given .1)))

@@ -20,7 +20,7 @@ returns : tie.Need-returns
 returns c =
     let s = c .before .before .before .before .before .before in
     let a = s .args in
-    c .cancel .ensures (a .sides .now) (a .prices .now) (a .series) (a .number) (a .records .now)
+    c .cancel .ensures (a .sides .now) (a .prices .now) (a .series) (a .records .now)
     ∙ by-cancel (met s) (a .t) (a .records .now) (a .e) (c .before .before .before .before .if1 .taken)
 
 returns-2 : tie.Need-returns-2

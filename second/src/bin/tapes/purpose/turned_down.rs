@@ -1,11 +1,12 @@
-//! Scenes for each reason to turn an entry down, and for what just passes it.
+//! Scenes for each reason to turn an entry down, and for what just passes it;
+//! and cancels of numbers given out and never given.
 
 use std::io;
 
 use second::entry::Side;
 
 use super::{Scene, SIDES};
-use crate::pen::{cancel, into, limit, market, with, Pen, DAY, NOW, PLAIN};
+use crate::pen::{cancel, into, limit, market, with, Numbers, Pen, DAY, NOW, PLAIN};
 use crate::pen::{ALLOCATION, FAR, GREATEST, GRID, LEAST, PERCENT, PRINT, STRIKE, TYPE};
 
 pub const ALL: [Scene; 11] = [
@@ -20,6 +21,15 @@ pub const ALL: [Scene; 11] = [
     rows_used,
     not_resting,
     two_reasons,
+];
+
+/// The scenes for cancels of numbers around the next one and of the day before,
+/// which a tape has behind all those above.
+pub const CANCELS: [Scene; 4] = [
+    around_the_next_number,
+    given_while_it_waits,
+    numbers_of_the_day_before,
+    any_number_in_reach,
 ];
 
 fn not_open(pen: &mut Pen) -> io::Result<()> {
@@ -260,4 +270,132 @@ fn two_reasons(pen: &mut Pen) -> io::Result<()> {
     pen.take(1, market(Side::Sell, DAY, 1))?;
     pen.away(40, 0)?;
     pen.take(1, limit(Side::Sell, DAY, 19, 1))
+}
+
+/// An owner of orders and another tenant.
+fn two_tenants(pen: &mut Pen) -> (u32, u32) {
+    let owner = pen.tenant();
+    (owner, (owner + pen.dice.within(1..=8)) % 9)
+}
+
+/// Cancels by this tenant of the last number given, of the next one and of the
+/// one past it; where none is given yet, of the latter two.
+fn cancel_around_the_next(pen: &mut Pen, tenant: u32) -> io::Result<()> {
+    let last = pen.last_number();
+    for number in last.max(1)..=last + 2 {
+        pen.take(tenant, cancel(number))?;
+    }
+    Ok(())
+}
+
+/// The numbers around the next one before any order, while the last order
+/// rests, once it is cancelled and, in an open series, cancelled at once. The
+/// market order is turned down, and gets no number.
+fn around_the_next_number(pen: &mut Pen) -> io::Result<()> {
+    for open in [false, true] {
+        let side = pen.dice.pick(&SIDES);
+        let (owner, other) = two_tenants(pen);
+        let count = pen.dice.within(1..=5) as usize;
+        pen.settings(PLAIN)?;
+        if open {
+            pen.open()?;
+        }
+        cancel_around_the_next(pen, owner)?;
+        pen.take_all(owner, &vec![limit(side, DAY, 100, 2); count])?;
+        pen.take(other, market(side, NOW, 1))?;
+        for tenant in [other, owner, owner] {
+            cancel_around_the_next(pen, tenant)?;
+        }
+        pen.take(other, limit(side, NOW, 100, 1))?;
+        cancel_around_the_next(pen, other)?;
+    }
+    Ok(())
+}
+
+/// Cancels that wait while the number they name is given: behind the order in
+/// its lane, and in another lane, where the rotation decides which is first.
+fn given_while_it_waits(pen: &mut Pen) -> io::Result<()> {
+    for open in [false, true] {
+        let rests = limit(pen.dice.pick(&SIDES), DAY, 100, 2);
+        let tenant = pen.tenant();
+        pen.settings(PLAIN)?;
+        if open {
+            pen.open()?;
+        }
+        pen.submit(tenant, &[cancel(1), rests, cancel(1), cancel(1)])?;
+        pen.turns(4)?;
+        for owner in [3, 6] {
+            let next = pen.last_number() + 1;
+            pen.submit(owner, &[rests, rests])?;
+            pen.submit(5, &[cancel(next), cancel(next + 1)])?;
+            pen.turns(4)?;
+        }
+    }
+    Ok(())
+}
+
+/// The numbers of a day under settings that are refused, then as those of the
+/// day before: under new settings, and once some and all of them are given
+/// again.
+fn numbers_of_the_day_before(pen: &mut Pen) -> io::Result<()> {
+    for open in [false, true] {
+        let side = pen.dice.pick(&SIDES);
+        let (owner, other) = two_tenants(pen);
+        let rests = limit(side, DAY, 100, 2);
+        let count = pen.dice.within(3..=7) as usize;
+        pen.opened(PLAIN)?;
+        pen.take_all(owner, &vec![rests; count])?;
+        pen.take(other, limit(side.opposite(), NOW, 100, 3))?;
+        let given = pen.last_number();
+        pen.settings(with(PLAIN, &[(GRID, 4)]))?;
+        cancel_each(pen, other, given)?;
+        pen.settings(PLAIN)?;
+        cancel_each(pen, owner, given)?;
+        if open {
+            pen.open()?;
+        }
+        cancel_each(pen, other, given)?;
+        for orders in [count - 2, 3] {
+            pen.take_all(owner, &vec![rests; orders])?;
+            cancel_each(pen, other, given)?;
+            cancel_each(pen, owner, given)?;
+        }
+    }
+    Ok(())
+}
+
+/// Cancels by this tenant of every number given and of the one behind them.
+fn cancel_each(pen: &mut Pen, tenant: u32, given: u32) -> io::Result<()> {
+    let cancels: Vec<Numbers> = (1..=given + 1).map(cancel).collect();
+    pen.take_all(tenant, &cancels)
+}
+
+/// Two random days of small orders by three tenants, and as many cancels of any
+/// number up to the one past the next.
+fn any_number_in_reach(pen: &mut Pen) -> io::Result<()> {
+    for _ in 0..2 {
+        let class = pen.either_class();
+        pen.settings(with(PLAIN, &[(ALLOCATION, class), (PRINT, 100)]))?;
+        let open_at = pen.dice.within(0..=30);
+        for step in 0..40 {
+            if step == open_at {
+                pen.open()?;
+            }
+            let tenant = pen.dice.within(0..=2);
+            let entry = order_or_cancel(pen);
+            pen.take(tenant, entry)?;
+        }
+    }
+    Ok(())
+}
+
+fn order_or_cancel(pen: &mut Pen) -> Numbers {
+    if pen.dice.chance(50) {
+        let last = pen.last_number();
+        return cancel(pen.dice.within(1..=last + 2));
+    }
+    let side = pen.dice.pick(&SIDES);
+    let life = pen.dice.pick(&[DAY, DAY, NOW]);
+    let price = pen.dice.within(98..=102);
+    limit(side, life, price, pen.dice.within(1..=4))
 }

@@ -127,7 +127,7 @@ impl Report {
             (Event::Settings(values), Answer::Settings(outcome)) => {
                 calls::settings(counts, &before, values, *outcome);
                 if outcome.is_ok() {
-                    *history = turns::History::default();
+                    *history = turns::History::new_day(before.series());
                 }
             }
             (Event::Away { bid, offer }, Answer::Away(outcome)) => {

@@ -28,9 +28,20 @@ pub struct History {
     fates: BTreeMap<u32, Fate>,
     part_filled: BTreeSet<u32>,
     once_full: BTreeSet<usize>,
+    /// The last number given out on the day before.
+    given_before: u32,
 }
 
 impl History {
+    /// The history of a new day, which knows nothing but the numbers that the
+    /// day before gave out.
+    pub fn new_day(before: Option<&Series>) -> History {
+        History {
+            given_before: before.map_or(0, Series::last_number),
+            ..History::default()
+        }
+    }
+
     /// Takes note of an opening's fills and cancelled orders.
     pub fn opened(&mut self, opening: &Opening, after: Option<&Series>) {
         self.filled(&opening.fills, after);
@@ -69,7 +80,7 @@ impl History {
     }
 }
 
-const PLAIN_NAMES: [&str; 79] = [
+const PLAIN_NAMES: [&str; 84] = [
     "turn 5",
     "turn 21",
     "rotation takes the lane at its place",
@@ -114,13 +125,18 @@ const PLAIN_NAMES: [&str; 79] = [
     "17 though it would trade in full",
     "17 with the table full",
     "17 with the table not full",
-    "18 never given",
     "18 another tenant's",
     "18 filled",
     "18 cancelled before",
     "18 cancelled at once",
     "18 gone at the opening",
     "18 before opening",
+    "22 the next number",
+    "22 past the next number",
+    "22 of the day before",
+    "22 before any number was given",
+    "22 before opening",
+    "22 once open",
     "disposition 5 buy",
     "disposition 5 sell",
     "disposition 5 before opening",
@@ -289,6 +305,9 @@ fn turned_down(
         also(counts, series, tenant, order, reason);
     }
     match (entry, reason) {
+        (Entry::Cancel { number }, TurnedDown::NeverGiven) => {
+            never_given(counts, history, series, number);
+        }
         (Entry::Cancel { number }, _) => not_resting(counts, history, series, number),
         (Entry::New(order), TurnedDown::NotOpen) => not_open(counts, order),
         (Entry::New(order), TurnedDown::OffGrid) => off_grid(counts, &scene, order),
@@ -346,17 +365,39 @@ fn also(counts: &mut Counts, series: &Series, tenant: usize, order: Order, reaso
     }
 }
 
+/// Why a number that was given out does not rest for the tenant. One of which
+/// the history knows nothing is no outcome of the table, and told as unlisted.
 fn not_resting(counts: &mut Counts, history: &History, series: &Series, number: u32) {
     let rests = series.book().order(number).is_some();
     counts.add(match history.fates.get(&number) {
         _ if rests => "18 another tenant's",
-        None => "18 never given",
+        None => "18 though never given",
         Some(Fate::Filled) => "18 filled",
         Some(Fate::Cancelled) => "18 cancelled before",
         Some(Fate::CancelledAtOnce) => "18 cancelled at once",
         Some(Fate::Gone) => "18 gone at the opening",
     });
     counts.add_if(!series.is_open(), "18 before opening");
+}
+
+/// Which number that was never given the cancel names, and when. One that rests
+/// or has a fate was given: no outcome of the table, and told as unlisted.
+fn never_given(counts: &mut Counts, history: &History, series: &Series, number: u32) {
+    let given = series.last_number();
+    counts.add(if number == given.saturating_add(1) {
+        "22 the next number"
+    } else {
+        "22 past the next number"
+    });
+    counts.add_if(number <= history.given_before, "22 of the day before");
+    counts.add_if(given == 0, "22 before any number was given");
+    counts.add(if series.is_open() {
+        "22 once open"
+    } else {
+        "22 before opening"
+    });
+    let known = series.book().order(number).is_some() || history.fates.contains_key(&number);
+    counts.add_if(known, "22 though given out");
 }
 
 fn not_open(counts: &mut Counts, order: Order) {
