@@ -1,5 +1,5 @@
-// The matching crate: what an incoming order trades with the resting rows, what rests and what is cancelled, and the
-// fill records.
+// The matching crate: what an incoming order trades with the resting rows, what rests and what is cancelled, what the
+// number of an order says, and the fill records.
 pub mod lookup;
 pub mod quotes;
 pub mod records;
