@@ -21,11 +21,11 @@ codeOf NeverGiven = 22
 -- The lookup, by the test that a row must pass: the first row that passes is where the number rests. Where none does, a
 -- number below the next one has been given out, and any other never.
 module _ (places : ℕ) (test : ℕ → Bool) (next number : ℕ) where
-  abbrev restsNot : Found
-  restsNot = pick (ltb number next) GivenOut NeverGiven
+  abbrev row : ℕ
+  row = firstTo test places
 
   unfoldable pub foundBy : Found
-  foundBy = pick (ltb (firstTo test places) places) (Rests (firstTo test places)) restsNot
+  foundBy = pick (ltb row places) (Rests row) (pick (ltb number next) GivenOut NeverGiven)
 
 -- the test of a tenant's lookup: row i is the resting order of that number, and that tenant's
 abbrev pub orderAt : Book → ℕ → ℕ → ℕ → Bool

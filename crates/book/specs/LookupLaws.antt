@@ -5,11 +5,12 @@ use mathlib.Core.Bool.{Bool, true}
 use Prim.Native.Nat.{ℕ, _≤_, _<_}
 use native.Mathlib.Omega.{arith}
 use lib.Dec.{ltb}
-use borrow.Author.Tests.{ltb-true, ltb-false}
-use Rattle.units.specs.Tests.{picked}
+use borrow.Author.Tests.{lt-ltb, le-ltb, ltb-true, ltb-false}
+use Rattle.units.specs.Tests.{pick, picked}
 use Rattle.units.specs.Says.{&&-says, less-says, same-says}
 use Rattle.units.specs.Firsts.{firstTo, first-holds, first-least}
 use Rattle.rows.specs.Rows.{isOrder}
+use Rattle.rows.specs.Passes.{orderRow}
 use Rattle.book.specs.declared.lookup.Found.{Found}
 use Rattle.book.specs.declared.lookup.Found.the-variants.{Rests, GivenOut, NeverGiven}
 use Rattle.book.specs.Book.{Book, sizeAt, ownerAt, numberAt}
@@ -41,31 +42,29 @@ module _ (places : ℕ) (test : ℕ → Bool) (next number : ℕ) (Row : ℕ →
         first = λ i j e r. rw (← ap rowIn e) (none-before j r .1);
       }
 
-  module _ (none : NoRow Row) where
-    found-out : number < next → FoundSays Row next number GivenOut
-    found-out below = record {
-      rests = (λ x. absurd (omega (arith, x)), λ (i, r). absurd (none i r));
-      given-out = (λ _. (below, none), λ _. refl);
-      never-given = (λ x. absurd (omega (arith, x)), λ (past, _). absurd (omega arith));
-      there = λ i e. absurd (omega (arith, ap codeOf e));
-      first = λ i j e. absurd (omega (arith, ap codeOf e));
-    }
-
-    found-never : next ≤ number → FoundSays Row next number NeverGiven
-    found-never past = record {
-      rests = (λ x. absurd (omega (arith, x)), λ (i, r). absurd (none i r));
-      given-out = (λ x. absurd (omega (arith, x)), λ (below, _). absurd (omega arith));
-      never-given = (λ _. (past, none), λ _. refl);
-      there = λ i e. absurd (omega (arith, ap codeOf e));
-      first = λ i j e. absurd (omega (arith, ap codeOf e));
-    }
+  -- where no row is the order, by the answer's number
+  found-not : NoRow Row → (f : Found) → 0 < codeOf f → (codeOf f ≡ 18) ↔ (number < next) → (codeOf f ≡ 22) ↔ (next ≤ number) → FoundSays Row next number f
+  found-not none f some out never = record {
+    rests = (λ x. absurd (omega (arith, x)), λ (i, r). absurd (none i r));
+    given-out = (λ x. (out .0 x, none), λ (below, _). out .1 below);
+    never-given = (λ x. (never .0 x, none), λ (past, _). never .1 past);
+    there = λ i e. absurd (omega (arith, ap codeOf e));
+    first = λ i j e. absurd (omega (arith, ap codeOf e));
+  }
 
   pub found-by-says : FoundSays Row next number (foundBy places test next number)
   unfolding foundBy
   found-by-says =
-      picked (FoundSays Row next number) (ltb row places) _ _ (λ h. found-at (ltb-true row places h)) (λ h.
+      let P = FoundSays Row next number in
+      picked P (ltb row places) _ _ (λ h. found-at (ltb-true row places h)) (λ h.
       let none : NoRow Row = λ i r. omega (arith, ltb-false row places h, none-before i r .0, none-before i r .1) in
-      picked (FoundSays Row next number) (ltb number next) _ _ (λ k. found-out none (ltb-true number next k)) (λ k. found-never none (ltb-false number next k)))
+      picked P (ltb number next) _ _
+      (λ k.
+      let below = ltb-true number next k in
+      found-not none GivenOut (omega arith) (λ _. below, λ _. refl) (λ x. absurd (omega (arith, x)), λ past. absurd (omega arith)))
+      (λ k.
+      let past = ltb-false number next k in
+      found-not none NeverGiven (omega arith) (λ x. absurd (omega (arith, x)), λ below. absurd (omega arith)) (λ _. past, λ _. refl)))
 
 -- ---- a tenant's lookup
 
@@ -83,3 +82,17 @@ module _ (b : Book) (t n : ℕ) where
   pub found-says : (next : ℕ) → FoundSays (RestsAs b t n) next n (found b next t n)
   unfolding found
   found-says next = found-by-says (b .places) (orderAt b t n) next n (RestsAs b t n) rests-says
+
+  -- the answers as the code comes to them, by the order's row
+  module _ (next row : ℕ) (is : row ≡ orderRow (b .places) (ownerAt b) (numberAt b) (sizeAt b) t n) where
+    pub rests-there : row < b .places → Rests row ≡ found b next t n
+    unfolding found foundBy orderRow pick
+    rests-there h = rw (← is, lt-ltb row (b .places) h)
+
+    pub is-given-out : b .places ≤ row → n < next → GivenOut ≡ found b next t n
+    unfolding found foundBy orderRow pick
+    is-given-out h k = rw (← is, le-ltb row (b .places) h, lt-ltb n next k)
+
+    pub is-never-given : b .places ≤ row → next ≤ n → NeverGiven ≡ found b next t n
+    unfolding found foundBy orderRow pick
+    is-never-given h k = rw (← is, le-ltb row (b .places) h, le-ltb n next k)

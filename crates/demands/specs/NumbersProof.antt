@@ -236,6 +236,6 @@ numbers-given = record {
   in-order = counted-in-order;
   next = counted-next;
   below-next = below-given;
-  cancel-given-out = λ m start cs lent t was k cancel. given-out m start cs lent t was k cancel;
-  cancel-never-given = λ m start cs lent t was k cancel. never-given m start cs lent t was k cancel;
+  cancel-given-out = given-out;
+  cancel-never-given = never-given;
 }

@@ -227,18 +227,18 @@ module _ (field : Tally → ℕ) (part : ℕ → Market → Call → ℕ) (nothi
     none-sum : field (tallyAt noTallies u) ≡ 0
     none-sum = ap field (no-tally u h) ∙ nothing
 
-    start-sums : (m : Market) → Start m → (cs : List Call) → field (tallyAt (after m cs .session .tallies) u) ≡ sumSince (part u) 0 m cs
-    start-sums m s cs =
-        run-since (λ m c before. before + part u m c) 0 Sums
-        (λ m c r n k. record {
-          stands = step-stands m c (k .stands);
-          is-sum = ap (λ (x : List Tally). field (tallyAt x u)) (step-resets m c r) ∙ none-sum;
-        })
-        (λ m c r n k. record {
-          stands = step-stands m c (k .stands);
-          is-sum = ap field (step-counts m (k .stands) c r .adds u h) ∙ (is (tallyAt (m .session .tallies) u) u m c ∙ ap (λ x. x + part u m c) (k .is-sum));
-        })
-        m cs 0 (record { stands = start-stands m s; is-sum = ap (λ (x : Session). field (tallyAt (x .tallies) u)) (s .new) ∙ none-sum }) .is-sum
+  start-sums : (m : Market) → Start m → (cs : List Call) (u : ℕ) → u < tenants → field (tallyAt (after m cs .session .tallies) u) ≡ sumSince (part u) 0 m cs
+  start-sums m s cs u h =
+      run-since (λ m c before. before + part u m c) 0 (Sums u h)
+      (λ m c r n k. record {
+        stands = step-stands m c (k .stands);
+        is-sum = ap (λ (x : List Tally). field (tallyAt x u)) (step-resets m c r) ∙ none-sum u h;
+      })
+      (λ m c r n k. record {
+        stands = step-stands m c (k .stands);
+        is-sum = ap field (step-counts m (k .stands) c r .adds u h) ∙ (is (tallyAt (m .session .tallies) u) u m c ∙ ap (λ x. x + part u m c) (k .is-sum));
+      })
+      m cs 0 (record { stands = start-stands m s; is-sum = ap (λ (x : Session). field (tallyAt (x .tallies) u)) (s .new) ∙ none-sum u h }) .is-sum
 
 -- as much bought as sold
 none-even : boughtInAll noTallies ≡ soldInAll noTallies
@@ -273,9 +273,9 @@ call-even m stands (opening lent was) = open-counts m stands lent was (open-case
 
 pub tallies-told : Tallies
 tallies-told = record {
-  turns = λ m s cs u h. start-sums (λ x. x .turns) turnsBy refl (λ x u m c. refl) u h m s cs;
-  bought = λ m s cs u h. start-sums (λ x. x .bought) boughtBy refl (λ x u m c. refl) u h m s cs;
-  sold = λ m s cs u h. start-sums (λ x. x .sold) soldBy refl (λ x u m c. refl) u h m s cs;
+  turns = start-sums (λ x. x .turns) turnsBy refl (λ x u m c. refl);
+  bought = start-sums (λ x. x .bought) boughtBy refl (λ x u m c. refl);
+  sold = start-sums (λ x. x .sold) soldBy refl (λ x u m c. refl);
   each-call = λ m r. call-even m (reached-stands m r);
   in-all = reached-even;
 }

@@ -66,6 +66,13 @@ new-proper e h =
       size-most = size .1;
     }
 
+-- its side is 1 or 2
+pub side-bounds : (e : Entry) → Proper e → (1 ≤ e .side) × (e .side ≤ 2)
+side-bounds e p = ⊎-elim
+    (λ (b : isBuy e ≡ true). let k = eqb-true (e .side) 1 b in (omega arith, omega arith))
+    (λ (s : isSell e ≡ true). let k = eqb-true (e .side) 2 s in (omega arith, omega arith))
+    (p .sided)
+
 -- a well-formed cancel names a number of 1 or more
 pub cancel-numbered : (e : Entry) → malformed e ≡ false → isCancel e ≡ true → 1 ≤ e .number
 unfolding cancelling
@@ -75,10 +82,3 @@ cancel-numbered e h c =
     (λ new. ⊎-elim (λ l. absurd (omega (arith, eqb-true (e .kind) 1 l))) (λ m. absurd (omega (arith, eqb-true (e .kind) 2 m))) (new-proper e new .kinded))
     (λ k. leb-true 1 (e .number) (and-true (isCancel e) _ (and-true (isCancel e and leb 1 (e .number)) _ k .0) .1))
     (well-formed e h)
-
--- its side is 1 or 2
-pub side-bounds : (e : Entry) → Proper e → (1 ≤ e .side) × (e .side ≤ 2)
-side-bounds e p = ⊎-elim
-    (λ (b : isBuy e ≡ true). let k = eqb-true (e .side) 1 b in (omega arith, omega arith))
-    (λ (s : isSell e ≡ true). let k = eqb-true (e .side) 2 s in (omega arith, omega arith))
-    (p .sided)
