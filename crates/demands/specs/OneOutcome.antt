@@ -91,7 +91,6 @@ use Rattle.writer.proofs.write.Reads as writer-write
 use Rattle.writer.proofs.rewriting.rewrite.Reads as writer-rewrite
 use Rattle.figures.proofs.Place.new.Reads as figures-new
 use Rattle.figures.proofs.inscribe.Reads as figures-inscribe
-use Rattle.figures.proofs.refusal.refusal_line.Reads as figures-refusal-line
 use Rattle.rows.proofs.row.lesser.Reads as rows-lesser
 use Rattle.rows.proofs.row.lesser_wide.Reads as rows-lesser-wide
 use Rattle.rows.proofs.row.greater.Reads as rows-greater
@@ -158,6 +157,9 @@ use Rattle.replay.proofs.tallying.tally_lines.Reads as replay-tally-lines
 use Rattle.window.proofs.is_short.Reads as window-is-short
 use Rattle.window.proofs.program.tell.Reads as window-tell
 use Rattle.window.proofs.program.status_after.Reads as window-status-after
+use Rattle.window.proofs.program.status_of.Reads as window-status-of
+use Rattle.window.proofs.program.tell_line.Reads as window-tell-line
+use Rattle.window.proofs.refusal.refusal_line.Reads as window-refusal-line
 use Rattle.playing.proofs.play.Reads as playing-play
 
 -- the result is the same
@@ -314,9 +316,6 @@ one-figures-inscribe κs a z z′ e e′ p q =
     let numbers = same (p .numbers-are) (q .numbers-are) in
     let out = same (p .laid) (q .laid) in
     (λ i. record { place = place i; from = from i; at = at i; next = next i }, λ i. numbers i ∷ out i ∷ [])
-
-pub one-figures-refusal-line : OneOutcome figures-refusal-line.Post (λ e. first (e .1 .1))
-one-figures-refusal-line κs a z z′ e e′ p q = (same (p .after) (q .after), alone (p .laid) (q .laid))
 
 -- ---- lines
 
@@ -787,6 +786,15 @@ one-window-tell κs a z z′ e e′ p q = refl
 
 pub one-window-status-after : OneResult window-status-after.Post
 one-window-status-after κs a z z′ e e′ = same
+
+pub one-window-status-of : OneResult window-status-of.Post
+one-window-status-of κs a z z′ e e′ = same
+
+pub one-window-tell-line : OneResult window-tell-line.Post
+one-window-tell-line κs a z z′ e e′ p q = refl
+
+pub one-window-refusal-line : OneOutcome window-refusal-line.Post (λ e. first (e .1 .1 .1))
+one-window-refusal-line κs a z z′ e e′ p q = (same (p .after) (q .after), alone (p .laid) (q .laid))
 
 -- ---- playing
 

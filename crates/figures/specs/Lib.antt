@@ -2,11 +2,9 @@
 pub mod Figures
 pub mod Reading
 pub mod Whole
-pub mod Refusal
 pub mod Inscribing
 pub mod Running
 pub mod TapeInFigures
-pub mod RefusalLaws
 pub mod ReadingLaws
 pub mod TakingLaws
 pub mod InscribingLaws

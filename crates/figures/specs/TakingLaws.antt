@@ -1,22 +1,18 @@
 -- What one byte leaves in lent memory: nothing, or the bytes of the event that it ends.
-use mathlib.Core.Path.{_≡_, refl, sym, ap, _∙_}
+use mathlib.Core.Path.{_≡_, refl, ap}
 use mathlib.Core.Bool.{Bool, true, false}
-use mathlib.Core.List.{List, _++_, append-assoc, append-nil}
+use mathlib.Core.List.{List}
 use Prim.Native.Nat.{ℕ, _+_, _-_, _≤_, _<_}
 use native.Mathlib.Omega.{arith}
-use borrow.Author.Tests.{ltb-true, ltb-false, lt-ltb, eq-eqb, ne-eqb}
+use borrow.Author.Tests.{lt-ltb, eq-eqb, ne-eqb}
 use borrow.Rule.Slice.PartMut.{midOf, putMid, mid-len, put-same}
-use lib.Dec.{ltb}
-use lib.ListN.{length, take, drop, set, length-drop, length-set, drop-of-length-le}
-use lib.Seq.{sets, sets-eq, take-all, drop-drop}
+use lib.ListN.{length, take, set, length-set}
 use Rattle.units.specs.Tests.{pick}
-use Rattle.tape.specs.Tape.{stored}
 use Rattle.tape.specs.Leads.{encodeAll}
-use Rattle.tape.specs.Several.{stored-front}
 use Rattle.writer.specs.declared.Written.{Written}
 use Rattle.writer.specs.declared.Written.the-variants.{Used, Refused}
 use Rattle.writer.specs.Write.{writeRefusal, writtenOf, bufferAfter}
-use Rattle.writer.specs.WriteLaws.{accepted}
+use Rattle.writer.specs.WriteLaws.{accepted, part-laid, used-says, refused-says}
 use Rattle.figures.specs.declared.Place.{Place}
 use Rattle.figures.specs.declared.reading.Moved.{Moved}
 use Rattle.figures.specs.declared.reading.Taken.{Taken}
@@ -28,36 +24,6 @@ use Rattle.figures.specs.Inscribing.{keeping, CanTake, TakesTo}
 -- nothing is written
 pub takes-silent : (numbers out : List ℕ) (at : ℕ) (m : Moved) → TakesTo (silent numbers m) out at (keeping m at) numbers out
 takes-silent numbers out at m = record { place = refl; numbers-are = refl; laid = refl; end = omega arith; code = refl }
-
--- bytes from the front of the memory behind a place are bytes from the place on
-part-laid : (bytes out : List ℕ) (at : ℕ) → at + length bytes ≤ length out → putMid at (length out - at) out (stored bytes (midOf at (length out - at) out)) ≡ sets out at bytes
-part-laid bytes out at h =
-    let rest : List ℕ = drop at out in
-    let long : length rest ≡ length out - at = length-drop at out in
-    rw (take-all (length out - at) rest (omega arith), stored-front bytes rest (omega arith), drop-of-length-le rest {i = length out - at} (omega arith), append-nil (bytes ++ drop (length bytes) rest), sets-eq bytes out at h, drop-drop (length bytes) at out)
-    (sym (append-assoc (take at out) bytes (drop (at + length bytes) out)))
-
--- what the writer's answer says
-module _ (vs : List ℕ) (room : ℕ) {r : Written} (is : r ≡ writtenOf vs room) where
-  pub used-says : {n : ℕ} → r ≡ Used n → (writeRefusal vs room ≡ 0) × (n ≡ length (encodeAll vs))
-  unfolding writtenOf pick
-  used-says {n} e = go (ltb 0 (writeRefusal vs room)) refl (sym e ∙ is)
-    where
-      go :
-          (t : Bool) → ltb 0 (writeRefusal vs room) ≡ t → Used n ≡ pick t (Refused (writeRefusal vs room)) (Used (length (encodeAll vs))) →
-          (writeRefusal vs room ≡ 0) × (n ≡ length (encodeAll vs))
-      go true t q = let z : _≡_ {A = ℕ} 0 1 = cc in absurd (omega arith)
-      go false t q = (omega (arith, ltb-false 0 (writeRefusal vs room) t), cc)
-
-  pub refused-says : {code : ℕ} → r ≡ Refused code → (writeRefusal vs room ≡ code) × (0 < code)
-  unfolding writtenOf pick
-  refused-says {code} e = go (ltb 0 (writeRefusal vs room)) refl (sym e ∙ is)
-    where
-      go :
-          (t : Bool) → ltb 0 (writeRefusal vs room) ≡ t → Refused code ≡ pick t (Refused (writeRefusal vs room)) (Used (length (encodeAll vs))) →
-          (writeRefusal vs room ≡ code) × (0 < code)
-      go true t q = let same : writeRefusal vs room ≡ code = cc in (same, omega (arith, ltb-true 0 (writeRefusal vs room) t))
-      go false t q = let z : _≡_ {A = ℕ} 0 1 = cc in absurd (omega arith)
 
 module _ (p : Place) (numbers out : List ℕ) (at : ℕ) (can : CanTake p out at) where
   -- the numbers of the line, and the memory behind the place

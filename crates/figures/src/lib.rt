@@ -1,7 +1,6 @@
 // A tape in figures: a text of one event a line, its numbers in decimal with one space between, is read byte by byte,
 // and the bytes of its tape are written.
 mod reading;
-pub mod refusal;
 
 use reading::NOT_FIGURES;
 use reading::take;

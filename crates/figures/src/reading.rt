@@ -15,13 +15,13 @@ ghost use Rattle.figures.specs.Inscribing.{keeping, CanTake, TakesTo};
 // A line that is not the figures of one event is refused as its numbers would be.
 pub(crate) const NOT_FIGURES: u32 = NOT_ONE_EVENT;
 
-pub(crate) const ZERO: u8 = 48;
+const ZERO: u8 = 48;
 
 const NINE: u8 = 57;
 
-pub(crate) const SPACE: u8 = 32;
+const SPACE: u8 = 32;
 
-pub(crate) const NEWLINE: u8 = 10;
+const NEWLINE: u8 = 10;
 
 // The place after a byte, and 0, or the number by which the byte's line is refused.
 struct Moved {

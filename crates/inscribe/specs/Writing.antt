@@ -4,16 +4,14 @@ use mathlib.Core.Bool.{Bool, true, false, true≢false}
 use mathlib.Core.List.{List, [], _∷_, _++_, append-assoc}
 use Prim.Native.Nat.{ℕ, _+_, _*_, _-_, _≤_, _<_}
 use native.Mathlib.Omega.{arith}
-use lib.Dec.{ltb}
 use lib.ListN.{length, take, drop, replicate, length-take, length-drop, length-replicate, drop-of-length-le}
 use lib.Seq.{length-take-le, length-sets}
-use Rattle.units.specs.Tests.{pick, picked-of-both}
 use Rattle.units.specs.Places.{sets-behind}
 use Rattle.tape.specs.Depth.{mostNumbers}
 use Rattle.window.specs.declared.Filled.{Filled}
 use Rattle.window.specs.Window.{windowLong, Refilled}
 use Rattle.window.specs.WindowLaws.{read-behind}
-use Rattle.window.specs.Program.{going, ended, refused, Stopped}
+use Rattle.window.specs.Program.{going, Stopped, statusOf, stops-status}
 use Rattle.figures.specs.declared.Place.{Place}
 use Rattle.figures.specs.declared.Next.the-variants.{Read, Write, Stop}
 use Rattle.figures.specs.declared.Inscribed.{Inscribed}
@@ -22,14 +20,6 @@ use Rattle.figures.specs.Whole.{Inscription, _before_, endingOf}
 use Rattle.figures.specs.Inscribing.{Inscribing, inscribeOf, CanInscribe, InscribesTo}
 use Rattle.figures.specs.Running.{outputLong, Standing, atStart, madeFrom, made, filled, emptied, Run, reads, meets-end, writes, stops}
 use Rattle.figures.specs.RunningLaws.{before-twice, leaves-from}
-
--- where the text has stopped the status tells by what
-unfoldable pub statusOf : ℕ → ℕ
-statusOf code = pick (ltb 0 code) refused ended
-
-stops-status : (code : ℕ) → Stopped (statusOf code)
-unfolding statusOf
-stops-status code = picked-of-both Stopped (ltb 0 code) refused ended (omega arith) (omega arith)
 
 -- a line's number is at most this, whatever the turns that are left read
 abbrev pub farthest : ℕ

@@ -7,37 +7,21 @@
 use figures::Next;
 use figures::Place;
 use figures::inscribe;
-use figures::refusal::LONGEST_REFUSAL;
-use figures::refusal::refusal_line;
 use tape::MOST_NUMBERS;
-use window::program::ENDED;
 use window::program::FAILED;
 use window::program::GOING;
-use window::program::REFUSED;
 use window::program::TURNS;
 use window::program::flush;
 use window::program::opened;
 use window::program::status_after;
+use window::program::status_of;
 use window::program::tell;
+use window::program::tell_line;
 use window::refill;
-use window::writing::write_out;
-ghost use mathlib.Core.Path.{_≡_};
-ghost use Rattle.inscribe.specs.Writing.{statusOf};
-
-// How it stands where the text has stopped.
-fn status_of(code: u32) -> u8
-    ensures { λ r. ⌜ r ≡ statusOf code ⌝ }
-{
-    if code > 0 { REFUSED } else { ENDED }
-}
 
 // Tells the refused line, where there is one.
-fn tell_line(code: u32, line: u64) {
-    if code > 0 {
-        let mut told = [0u8; LONGEST_REFUSAL];
-        let end = refusal_line(code, line, &mut told);
-        write_out(libc::STDERR_FILENO, &told[..end]);
-    }
+fn tell_refused(code: u32, line: u64) {
+    tell_line(b"write ", code, line);
 }
 
 fn main() {
@@ -83,7 +67,7 @@ fn main() {
         }
     }
     if flush(&out, at) == GOING && status != FAILED {
-        tell_line(code, place.line);
+        tell_refused(code, place.line);
         tell(status);
     } else {
         tell(FAILED);

@@ -8,9 +8,10 @@ use native.Mathlib.Nat.{zero-add}
 use native.Mathlib.Numerals.{add-one}
 use native.Mathlib.Omega.{arith}
 use lib.Dec.{ltb}
-use lib.ListN.{length, getD, take, drop, length-append, take-append-drop}
-use lib.Seq.{sets, length-sets, take-suc, take-all}
-use borrow.Author.Tests.{lt-ltb, le-ltb, ltb-false}
+use lib.ListN.{length, getD, take, drop, length-append, length-drop, take-append-drop, drop-of-length-le}
+use lib.Seq.{sets, length-sets, sets-eq, take-suc, take-all, drop-drop}
+use borrow.Author.Tests.{lt-ltb, le-ltb, ltb-true, ltb-false}
+use borrow.Rule.Slice.PartMut.{midOf, putMid}
 use Rattle.units.specs.Tests.{isNot, pick, pick-yes, pick-no}
 use Rattle.units.specs.CaseLaws.{apart, GivenBy, first-given, all-fail}
 use Rattle.units.specs.Places.{sets-append}
@@ -18,7 +19,7 @@ use Rattle.numeral.specs.Number.{groups}
 use Rattle.numeral.specs.Encode.{encode}
 use Rattle.numeral.specs.Writing.{bytes-most}
 use Rattle.tape.specs.Tape.{event, stored}
-use Rattle.tape.specs.Several.{stored-sets}
+use Rattle.tape.specs.Several.{stored-sets, stored-front}
 use Rattle.tape.specs.Leads.{encodeAll}
 use Rattle.tape.specs.Depth.{mostBytes}
 use Rattle.tape.specs.Spelling.{spells-leads, leads-spells}
@@ -172,3 +173,33 @@ used-within vs room n q = go (ltb 0 (writeRefusal vs room)) refl
         let e : Used (length (encodeAll vs)) ≡ Used n = sym (pick-no (Refused (writeRefusal vs room)) (Used (length (encodeAll vs))) t) ∙ q in
         let long : length (encodeAll vs) ≡ n = cc in
         omega (arith, accepted vs room (omega (arith, ltb-false 0 (writeRefusal vs room) t)) .1)
+
+-- bytes from the front of the memory behind a place are bytes from the place on
+pub part-laid : (bytes out : List ℕ) (at : ℕ) → at + length bytes ≤ length out → putMid at (length out - at) out (stored bytes (midOf at (length out - at) out)) ≡ sets out at bytes
+part-laid bytes out at h =
+    let rest : List ℕ = drop at out in
+    let long : length rest ≡ length out - at = length-drop at out in
+    rw (take-all (length out - at) rest (omega arith), stored-front bytes rest (omega arith), drop-of-length-le rest {i = length out - at} (omega arith), append-nil (bytes ++ drop (length bytes) rest), sets-eq bytes out at h, drop-drop (length bytes) at out)
+    (sym (append-assoc (take at out) bytes (drop (at + length bytes) out)))
+
+-- what the writer's answer says
+module _ (vs : List ℕ) (room : ℕ) {r : Written} (is : r ≡ writtenOf vs room) where
+  pub used-says : {n : ℕ} → r ≡ Used n → (writeRefusal vs room ≡ 0) × (n ≡ length (encodeAll vs))
+  unfolding writtenOf pick
+  used-says {n} e = go (ltb 0 (writeRefusal vs room)) refl (sym e ∙ is)
+    where
+      go :
+          (t : Bool) → ltb 0 (writeRefusal vs room) ≡ t → Used n ≡ pick t (Refused (writeRefusal vs room)) (Used (length (encodeAll vs))) →
+          (writeRefusal vs room ≡ 0) × (n ≡ length (encodeAll vs))
+      go true t q = let z : _≡_ {A = ℕ} 0 1 = cc in absurd (omega arith)
+      go false t q = (omega (arith, ltb-false 0 (writeRefusal vs room) t), cc)
+
+  pub refused-says : {code : ℕ} → r ≡ Refused code → (writeRefusal vs room ≡ code) × (0 < code)
+  unfolding writtenOf pick
+  refused-says {code} e = go (ltb 0 (writeRefusal vs room)) refl (sym e ∙ is)
+    where
+      go :
+          (t : Bool) → ltb 0 (writeRefusal vs room) ≡ t → Refused code ≡ pick t (Refused (writeRefusal vs room)) (Used (length (encodeAll vs))) →
+          (writeRefusal vs room ≡ code) × (0 < code)
+      go true t q = let same : writeRefusal vs room ≡ code = cc in (same, omega (arith, ltb-true 0 (writeRefusal vs room) t))
+      go false t q = let z : _≡_ {A = ℕ} 0 1 = cc in absurd (omega arith)

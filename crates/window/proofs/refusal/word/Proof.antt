@@ -1,11 +1,11 @@
--- `figures::refusal::word` meets its contract: the bytes passed stand at the front.
+-- `window::refusal::word` meets its contract: the bytes passed stand at the front.
 use Prim.Native.Nat.{_-_}
 use native.Mathlib.Omega.{arith}
 use lib.ListN.{length}
 use borrow.Author.Needs.{needs}
-use Rattle.figures.specs.RefusalLaws.{lays-long, Copied, copy-starts, copy-goes-on, copy-ends}
-use Rattle.figures.proofs.refusal.word.Statement.{statement}
-use Rattle.figures.proofs.refusal.word.Tie as tie
+use Rattle.window.specs.RefusalLaws.{lays-long, Copied, copy-starts, copy-goes-on, copy-ends}
+use Rattle.window.proofs.refusal.word.Statement.{statement}
+use Rattle.window.proofs.refusal.word.Tie as tie
 
 abbrev Inv-loop : tie.InvT-loop
 Inv-loop out₀ bytes i₀ out i = Copied bytes out₀ i out

@@ -1,9 +1,9 @@
--- `inscribe::status_of` meets its contract, by its test.
+-- `window::program::status_of` meets its contract, by its test.
 use borrow.Author.Tests.{lt-ltb, le-ltb}
 use Rattle.units.specs.Tests.{pick}
-use Rattle.inscribe.specs.Writing.{statusOf}
-use Rattle.inscribe.proofs.status_of.Statement.{statement}
-use Rattle.inscribe.proofs.status_of.Tie as tie
+use Rattle.window.specs.Program.{statusOf}
+use Rattle.window.proofs.program.status_of.Statement.{statement}
+use Rattle.window.proofs.program.status_of.Tie as tie
 
 pub status-of-spec : {M : Type 1} → statement M
 unfolding statusOf pick

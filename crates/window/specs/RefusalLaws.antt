@@ -9,8 +9,7 @@ use lib.Seq.{length-sets, take-suc, take-all}
 use Rattle.units.specs.Places.{sets-append}
 use Rattle.units.specs.Decimal.{digit, decimal}
 use Rattle.units.specs.DecimalLaws.{decimal-low, decimal-high, decimal-most}
-use Rattle.figures.specs.Figures.{space, newline}
-use Rattle.figures.specs.Refusal.{writeWord, refusalLine, longestRefusal, Lays}
+use Rattle.window.specs.Refusal.{space, newline, refusalLine, longestBehind, Lays}
 
 pub lays-long : {was bytes out : List ℕ} {at end : ℕ} → Lays was at bytes end out → length out ≡ length was
 lays-long {was} {bytes} {out} {at} l = ap length (l .laid) ∙ length-sets was at bytes
@@ -61,13 +60,13 @@ code-long n h = decimal-most 9 n (omega arith)
 line-long : (n : ℕ) → n < 2 ^ 64 → length (decimal n) ≤ 20
 line-long n h = decimal-most 19 n (omega arith)
 
-pub refusal-within : (code line : ℕ) → code < 2 ^ 32 → line < 2 ^ 64 → length (refusalLine code line) ≤ longestRefusal
+pub refusal-within : (word : List ℕ) (code line : ℕ) → code < 2 ^ 32 → line < 2 ^ 64 → length (refusalLine word code line) ≤ length word + longestBehind
 unfolding refusalLine
-refusal-within code line c l = simp length-append (omega (arith, code-long code c, line-long line l))
+refusal-within word code line c l = simp length-append (omega (arith, code-long code c, line-long line l))
 
 -- the line, part by part: each has room behind those before it
-module _ (code line : ℕ) (code-fits : code < 2 ^ 32) (line-fits : line < 2 ^ 64) {was first : List ℕ} {word : ℕ} (room : longestRefusal ≤ length was)
-    (w : Lays was 0 writeWord word first) where
+module _ (code line : ℕ) (code-fits : code < 2 ^ 32) (line-fits : line < 2 ^ 64) {was what first : List ℕ} {word : ℕ} (room : length what + longestBehind ≤ length was)
+    (w : Lays was 0 what word first) where
   pub code-room : word + length (decimal code) ≤ length first
   code-room = omega (arith, lays-long w, w .after, code-long code code-fits)
 
@@ -84,6 +83,6 @@ module _ (code line : ℕ) (code-fits : code < 2 ^ 32) (line-fits : line < 2 ^ 6
         newline-room =
             omega (arith, lays-long w, lays-long c, lays-long s, lays-long l, w .after, c .after, s .after, l .after, code-long code code-fits, line-long line line-fits)
 
-        pub lays-refusal : {r : ℕ} {out : List ℕ} → Lays fourth end (newline ∷ []) r out → Lays was 0 (refusalLine code line) r out
+        pub lays-refusal : {r : ℕ} {out : List ℕ} → Lays fourth end (newline ∷ []) r out → Lays was 0 (refusalLine what code line) r out
         unfolding refusalLine
         lays-refusal n = lays-then (lays-then (lays-then (lays-then w c) s) l) n

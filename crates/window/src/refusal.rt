@@ -1,15 +1,18 @@
-// The line that tells which line of a text is refused, and by which number: `write C L`.
-use crate::reading::NEWLINE;
-use crate::reading::SPACE;
-use crate::reading::ZERO;
+// The line that tells which line of a text is refused, and by which number: a word, as `write`, the number and the line.
 ghost use mathlib.Core.List.{[], _∷_};
 ghost use Prim.Native.Nat.{_+_, _≤_, _<_};
 ghost use lib.ListN.{length};
 ghost use Rattle.units.specs.Decimal.{decimal};
-ghost use Rattle.figures.specs.Refusal.{Lays, refusalLine, longestRefusal};
+ghost use Rattle.window.specs.Refusal.{Lays, refusalLine, longestBehind};
 
-// Its word, with the space behind it, ten digits, a space, twenty digits and the newline.
-pub const LONGEST_REFUSAL: usize = 38;
+const ZERO: u8 = 48;
+
+const SPACE: u8 = 32;
+
+const NEWLINE: u8 = 10;
+
+// The bytes behind its word and the space: ten digits, a space, twenty digits and the newline.
+pub const LONGEST_BEHIND: usize = 32;
 
 // The digits of a number from a place on.
 fn digits(n: u64, out: &mut [u8], at: usize) -> usize
@@ -47,12 +50,13 @@ fn put(b: u8, out: &mut [u8], at: usize) -> usize
     at + 1
 }
 
-// Lays the line out from the front of the lent memory, and answers the place after it.
-pub fn refusal_line(code: u32, line: u64, out: &mut [u8]) -> usize
-    requires { ⌜ longestRefusal ≤ length (now out) ⌝ }
-    ensures { λ r. ⌜ Lays (now (out .entry)) 0 (refusalLine code line) r (now (out .exit)) ⌝ }
+// Lays the line out from the front of the lent memory, with a word and the space behind it in front, and answers the
+// place after it.
+pub fn refusal_line(what: &[u8], code: u32, line: u64, out: &mut [u8]) -> usize
+    requires { ⌜ length (now what) + longestBehind ≤ length (now out) ⌝ }
+    ensures { λ r. ⌜ Lays (now (out .entry)) 0 (refusalLine (now (what .entry)) code line) r (now (out .exit)) ⌝ }
 {
-    let w = word(out, b"write ");
+    let w = word(out, what);
     let c = digits(code as u64, out, w);
     let s = put(SPACE, out, c);
     let l = digits(line, out, s);

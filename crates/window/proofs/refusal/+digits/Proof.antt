@@ -4,12 +4,12 @@ use native.Mathlib.Omega.{arith}
 use borrow.Author.Needs.{needs}
 use borrow.Fn.Kinds.{In}
 use borrow.Fn.PlainCycle.{Measures, is, falls, and}
-use Rattle.figures.specs.RefusalLaws.{low-long, high-long, lays-low, lays-high}
-use Rattle.figures.proofs.refusal.digits.Reads as digits
-use Rattle.figures.proofs.refusal.digits.Kinds as digits-kinds
-use Rattle.figures.proofs.refusal.+digits.Lts-digits as digits-lts
-use Rattle.figures.proofs.refusal.+digits.{statement}
-use Rattle.figures.proofs.refusal.+digits.Tie.{close}
+use Rattle.window.specs.RefusalLaws.{low-long, high-long, lays-low, lays-high}
+use Rattle.window.proofs.refusal.digits.Reads as digits
+use Rattle.window.proofs.refusal.digits.Kinds as digits-kinds
+use Rattle.window.proofs.refusal.+digits.Lts-digits as digits-lts
+use Rattle.window.proofs.refusal.+digits.{statement}
+use Rattle.window.proofs.refusal.+digits.Tie.{close}
 
 abbrev μ-digits : Measures 1 digits-kinds.ps ℕ
 μ-digits κs a = a .0

@@ -1,9 +1,9 @@
--- `figures::refusal::refusal_line` meets its contract: each part of the line stands behind those before it.
+-- `window::refusal::refusal_line` meets its contract: each part of the line stands behind those before it.
 use native.Mathlib.Omega.{arith}
 use borrow.Author.Needs.{needs}
-use Rattle.figures.specs.RefusalLaws.{code-room, space-room, line-room, newline-room, lays-refusal}
-use Rattle.figures.proofs.refusal.refusal_line.Statement.{statement}
-use Rattle.figures.proofs.refusal.refusal_line.Tie as tie
+use Rattle.window.specs.RefusalLaws.{code-room, space-room, line-room, newline-room, lays-refusal}
+use Rattle.window.proofs.refusal.refusal_line.Statement.{statement}
+use Rattle.window.proofs.refusal.refusal_line.Tie as tie
 
 digits-requires : tie.Need-digits-requires
 digits-requires c κs =
@@ -49,7 +49,6 @@ pub refusal-line-spec : {M : Type 1} → statement M
 refusal-line-spec =
     tie.close
     (tie.spec
-    (λ c. search needs)
     (λ c κs. search needs)
     digits-requires
     put-requires
