@@ -5,7 +5,7 @@
 //! the numbers of exactly one event or it is refused; nothing in a text is
 //! passed over, no remark, no empty line and no second space.
 
-use std::fmt::Write;
+use std::fmt::{self, Display, Formatter, Write};
 use std::io::{self, BufRead, Read};
 
 use crate::tape::Reader;
@@ -21,6 +21,12 @@ const LONGEST_LINE: u64 = 11 * MOST_NUMBERS as u64;
 pub struct RefusedLine {
     pub refusal: WriteRefusal,
     pub line: u64,
+}
+
+impl Display for RefusedLine {
+    fn fmt(&self, told: &mut Formatter) -> fmt::Result {
+        write!(told, "write {} {}", self.refusal.number(), self.line)
+    }
 }
 
 /// The numbers that a line spells, the line without its newline.

@@ -14,6 +14,7 @@ pub mod opening;
 pub mod refusal;
 pub mod session;
 pub mod settings;
+pub mod sheet;
 pub mod tape;
 pub mod units;
 pub mod words;

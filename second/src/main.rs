@@ -1,22 +1,24 @@
 //! Reads a tape and prints what the market answers to it; writes a tape from
-//! its events in figures, and a tape once more.
+//! its events in figures, a tape once more, and the tape of an order sheet.
 
 use std::ffi::{OsStr, OsString};
+use std::fmt::Display;
 use std::fs::File;
 use std::io::{self, BufRead, BufReader, BufWriter, Read, Write};
 use std::process::ExitCode;
 
 use second::ending::Trouble;
-use second::figures::{Events, RefusedLine};
+use second::figures::Events;
 use second::session::Session;
+use second::sheet::Submits;
 use second::tape::{print_tallies, run};
-use second::writer::again;
+use second::writer::{again, rewritten};
 
 /// The exit status after a refused tape or a refused line.
 const REFUSED: u8 = 1;
 
-const USAGE: &str =
-    "one file at most, and the option before it: second [--tallies | --write | --again] [FILE]";
+const USAGE: &str = "one file at most, and the option before it: \
+    second [--tallies | --write | --again | --sheet] [FILE]";
 
 /// What is asked for.
 #[derive(Clone, Copy)]
@@ -29,6 +31,8 @@ enum Task {
     Write,
     /// The tape once more, through the writer.
     Again,
+    /// The tape of an order sheet's submits.
+    Sheet,
 }
 
 fn main() -> ExitCode {
@@ -47,6 +51,7 @@ fn asked(arguments: &[OsString]) -> (Task, &[OsString]) {
         Some("--tallies") => Task::PrintTallies,
         Some("--write") => Task::Write,
         Some("--again") => Task::Again,
+        Some("--sheet") => Task::Sheet,
         _ => return (Task::Print, arguments),
     };
     (task, &arguments[1..])
@@ -62,6 +67,7 @@ fn answer(arguments: &[OsString]) -> Result<bool, Trouble> {
         Task::PrintTallies => replay(&source.read()?, true, &mut out).map_err(unwritten),
         Task::Write => write_events(&source, &mut out),
         Task::Again => write_again(&source.read()?, &mut out).map_err(unwritten),
+        Task::Sheet => write_submits(&source, &mut out),
     }
 }
 
@@ -121,27 +127,42 @@ fn replay(tape: &[u8], tallies: bool, out: &mut impl Write) -> io::Result<bool> 
     Ok(ended)
 }
 
-/// Writes the events of a text until it ends or a line is refused, which is
-/// told when all before it is out.
+/// Writes the events of a text in figures, as far as it is right.
 fn write_events(source: &Source, out: &mut impl Write) -> Result<bool, Trouble> {
     let mut events = Events::new(source.open()?);
+    write_lines(source, out, || events.event())
+}
+
+/// Writes the submits of an order sheet, as far as it is right.
+fn write_submits(source: &Source, out: &mut impl Write) -> Result<bool, Trouble> {
+    let mut submits = Submits::new(source.open()?);
+    write_lines(source, out, || match submits.submit()? {
+        Some(Ok(submit)) => Ok(Some(Ok(rewritten(&submit)?))),
+        Some(Err(refused)) => Ok(Some(Err(refused))),
+        None => Ok(None),
+    })
+}
+
+/// Writes the bytes of line after line until there is none or one is refused,
+/// which is told when all before it is out.
+fn write_lines<E: Display>(
+    source: &Source,
+    out: &mut impl Write,
+    mut next: impl FnMut() -> io::Result<Option<Result<Vec<u8>, E>>>,
+) -> Result<bool, Trouble> {
     let refused = loop {
-        let event = events.event().map_err(|error| source.unreadable(error))?;
-        match event {
+        match next().map_err(|error| source.unreadable(error))? {
             Some(Ok(bytes)) => out.write_all(&bytes).map_err(unwritten)?,
             Some(Err(refused)) => break Some(refused),
             None => break None,
         }
     };
     out.flush().map_err(unwritten)?;
-    refused.iter().for_each(tell);
+    if let Some(refused) = &refused {
+        // Where standard error is closed, nobody is left to tell.
+        let _ = writeln!(io::stderr(), "{refused}");
+    }
     Ok(refused.is_none())
-}
-
-fn tell(refused: &RefusedLine) {
-    let RefusedLine { refusal, line } = refused;
-    // Where standard error is closed, nobody is left to tell.
-    let _ = writeln!(io::stderr(), "write {} {line}", refusal.number());
 }
 
 /// Writes the events of a tape once more, as far as it can be read.

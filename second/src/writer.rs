@@ -92,9 +92,9 @@ pub fn again(tape: &[u8], out: &mut impl Write) -> io::Result<bool> {
     }
 }
 
-/// The bytes of an event that was read. The writer takes every event that the
-/// reader gives; should it ever not, the tape is not cut short in silence.
-fn rewritten(event: &Event) -> io::Result<Vec<u8>> {
+/// The bytes of an event that was read, from a tape or a sheet. The writer takes
+/// every such event; should it ever not, the tape is not cut short in silence.
+pub fn rewritten(event: &Event) -> io::Result<Vec<u8>> {
     written(&event.numbers()).map_err(|refusal| {
         let number = refusal.number();
         io::Error::other(format!("an event that was read is refused by {number}"))

@@ -207,13 +207,15 @@ fn a_pipe_closed_early_is_no_complaint_in_any_mode() {
     let words = format!("{STORED}/worked-example.words");
     let text = concat!(env!("CARGO_TARGET_TMPDIR"), "/closed-early.figures");
     fs::write(text, "4\n".repeat(100_000)).expect("a text in figures");
-    let starts: [(&str, &[&str]); 15] = [
+    let sheet = concat!(env!("CARGO_MANIFEST_DIR"), "/../tests/sheets/day.sheet");
+    let starts: [(&str, &[&str]); 17] = [
         (SECOND, &[]),
         (SECOND, &[LONG]),
         (SECOND, &["--tallies"]),
         (SECOND, &["--tallies", LONG]),
         (SECOND, &["--write", text]),
         (SECOND, &["--again", LONG]),
+        (SECOND, &["--sheet", sheet]),
         (TAPES, &["--help"]),
         (TAPES, &["--seed", "1", "--events", "50000"]),
         (TAPES, &["--report", LONG]),
@@ -222,6 +224,7 @@ fn a_pipe_closed_early_is_no_complaint_in_any_mode() {
         (TAPES, &["--make", &words]),
         (TAPES, &["--figures-of", LONG]),
         (TAPES, &["--figures-report", text]),
+        (TAPES, &["--sheets-report", sheet]),
         (TAPES, &["--compare", STORED, STORED]),
     ];
     for (program, arguments) in starts {

@@ -1,41 +1,19 @@
 //! Writing tapes, from figures and once more: the programs as they are started.
 
 mod started;
+mod texts;
 
 use std::fs;
 use std::io::Write;
-use std::path::{Path, PathBuf};
-use std::process::{Child, Command, Output, Stdio};
-use std::thread::sleep;
-use std::time::Duration;
 
 use started::{start, LONG, SECOND, STORED, TAPES};
+use texts::{a_round_reaches_all, ends, folder, stands_before_one_file, told, waiting, wrote};
 
 const SETTINGS: &str = "1 1 1 1 10000 10 20 10 25 500 0 0\n";
 
 /// The worked example in figures.
 fn worked_example() -> String {
     SETTINGS.to_string() + "5\n3 2 1 1 1 1 100 5 0\n3 7 1 1 2 2 100 3 0\n4\n4\n4\n"
-}
-
-/// A folder for the files of one test, empty.
-fn folder(name: &str) -> PathBuf {
-    let folder = PathBuf::from(env!("CARGO_TARGET_TMPDIR")).join(name);
-    // There is none the first time.
-    let _ = fs::remove_dir_all(&folder);
-    fs::create_dir_all(&folder).expect("a folder");
-    folder
-}
-
-fn told(output: &Output) -> String {
-    String::from_utf8_lossy(&output.stderr).into_owned()
-}
-
-/// Checks a program that wrote these bytes and said nothing.
-fn wrote(output: &Output, bytes: &[u8], status: i32) {
-    assert!(output.stdout == bytes, "{:x?}", output.stdout);
-    assert_eq!(told(output), "");
-    assert_eq!(output.status.code(), Some(status));
 }
 
 #[test]
@@ -88,23 +66,9 @@ fn a_wrong_line_far_down_is_told_with_its_number() {
     assert_eq!(output.status.code(), Some(1));
 }
 
-/// Whether a program ends within ten seconds.
-fn ends(program: &mut Child) -> bool {
-    (0..1_000).any(|_| {
-        sleep(Duration::from_millis(10));
-        matches!(program.try_wait(), Ok(Some(_)))
-    })
-}
-
 #[test]
 fn nothing_after_the_refused_line_is_waited_for() {
-    let mut program = Command::new(SECOND)
-        .arg("--write")
-        .stdin(Stdio::piped())
-        .stdout(Stdio::piped())
-        .stderr(Stdio::piped())
-        .spawn()
-        .expect("the program starts");
+    let mut program = waiting("--write");
     let mut text = program.stdin.take().expect("a piped input");
     text.write_all(b"5\n5 5\n").expect("two lines");
     text.flush().expect("two lines");
@@ -157,20 +121,8 @@ fn a_refused_tape_comes_again_as_its_readable_front() {
 
 #[test]
 fn each_option_stands_before_one_file_that_can_be_read() {
-    for option in ["--write", "--again"] {
-        for arguments in [
-            &[option, "there-is-no-such.file"][..],
-            &[option, STORED],
-            &[option, LONG, LONG],
-            &[option, "--tallies", LONG],
-            &[LONG, option],
-        ] {
-            let output = start(SECOND, arguments, &[]);
-            assert!(output.stdout.is_empty(), "{arguments:?}");
-            assert_eq!(told(&output).lines().count(), 1, "{arguments:?}");
-            assert_eq!(output.status.code(), Some(2), "{arguments:?}");
-        }
-    }
+    stands_before_one_file("--write", LONG, &["--tallies", "--again"]);
+    stands_before_one_file("--again", LONG, &["--tallies", "--write"]);
 }
 
 #[test]
@@ -189,59 +141,7 @@ fn a_tape_is_shown_in_figures_as_far_as_it_can_be_read() {
     assert_eq!(fs::read(&file).expect("a text"), b"2 300 0\n4\n");
 }
 
-/// How many texts make a round, as --help says.
-fn round() -> String {
-    let help = start(TAPES, &["--help"], &[]);
-    let help = String::from_utf8_lossy(&help.stdout).into_owned();
-    let (before, _) = help
-        .split_once(" texts are one round")
-        .expect("the length of a round");
-    let count = before.split_whitespace().last().expect("a number");
-    count.to_string()
-}
-
-/// The texts of a folder by name.
-fn texts(folder: &Path) -> Vec<(String, Vec<u8>)> {
-    let files = fs::read_dir(folder).expect("a folder of texts");
-    let mut texts: Vec<(String, Vec<u8>)> = files
-        .map(|file| {
-            let file = file.expect("a file of the folder");
-            let name = file.file_name().to_string_lossy().into_owned();
-            (name, fs::read(file.path()).expect("a text"))
-        })
-        .collect();
-    texts.sort();
-    texts
-}
-
 #[test]
 fn a_round_of_texts_reaches_every_outcome_and_comes_again() {
-    let count = round();
-    let folders = ["round", "round-again"].map(folder);
-    let written = folders.each_ref().map(|folder| {
-        let dir = folder.to_str().expect("a plain name");
-        let arguments = ["--figures", &count, "--seed", "3", "--dir", dir];
-        wrote(&start(TAPES, &arguments, &[]), &[], 0);
-        texts(folder)
-    });
-    assert_eq!(written[0].len().to_string(), count);
-    assert!(written[0] == written[1], "the texts differ");
-    let names: Vec<String> = written[0]
-        .iter()
-        .map(|(name, _)| folders[0].join(name).to_string_lossy().into_owned())
-        .collect();
-    assert!(names.iter().all(|name| name.ends_with("-3.figures")));
-    let mut arguments = vec!["--figures-report"];
-    arguments.extend(names.iter().map(String::as_str));
-    let report = start(TAPES, &arguments, &[]);
-    let table = String::from_utf8_lossy(&report.stdout);
-    let last = table.lines().last().expect("a last line");
-    assert!(last.starts_with(&format!("{count} texts, ")), "{last}");
-    assert!(last.ends_with(", 0 missing"), "{last}");
-    assert_eq!(report.status.code(), Some(0));
-    // One text does not reach all.
-    let report = start(TAPES, &arguments[..2], &[]);
-    let table = String::from_utf8_lossy(&report.stdout);
-    assert!(table.lines().any(|line| line.starts_with("missing: ")));
-    assert_eq!(report.status.code(), Some(1));
+    a_round_reaches_all("--figures", "texts", "figures");
 }

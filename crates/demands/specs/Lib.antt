@@ -45,4 +45,6 @@ pub mod Demand2Opening
 pub mod Demand2Proof
 pub mod Replay
 pub mod ReplayProof
+pub mod Sheets
+pub mod SheetsProof
 pub mod OneOutcome

@@ -91,6 +91,9 @@ use Rattle.writer.proofs.write.Reads as writer-write
 use Rattle.writer.proofs.rewriting.rewrite.Reads as writer-rewrite
 use Rattle.figures.proofs.Place.new.Reads as figures-new
 use Rattle.figures.proofs.inscribe.Reads as figures-inscribe
+use Rattle.sheet.proofs.Place.new.Reads as sheet-new
+use Rattle.sheet.proofs.step.Reads as sheet-step
+use Rattle.sheet.proofs.finish.Reads as sheet-finish
 use Rattle.rows.proofs.row.lesser.Reads as rows-lesser
 use Rattle.rows.proofs.row.lesser_wide.Reads as rows-lesser-wide
 use Rattle.rows.proofs.row.greater.Reads as rows-greater
@@ -316,6 +319,18 @@ one-figures-inscribe κs a z z′ e e′ p q =
     let numbers = same (p .numbers-are) (q .numbers-are) in
     let out = same (p .laid) (q .laid) in
     (λ i. record { place = place i; from = from i; at = at i; next = next i }, λ i. numbers i ∷ out i ∷ [])
+
+-- ---- sheet
+
+pub one-sheet-new : OneResult sheet-new.Post
+one-sheet-new κs a z z′ e e′ = same
+
+-- the bytes of a line that have come
+pub one-sheet-step : OneOutcome sheet-step.Post (λ e. first (e .1 .1 .1))
+one-sheet-step κs a z z′ e e′ p q = (same (p .0) (q .0), alone (p .1) (q .1))
+
+pub one-sheet-finish : OneResult sheet-finish.Post
+one-sheet-finish κs a z z′ e e′ = same
 
 -- ---- lines
 

@@ -35,7 +35,8 @@ two-says : (n : ℕ) → (oneOrTwo n ≡ true) ↔ ((n ≡ 1) ⊎ (n ≡ 2))
 unfolding oneOrTwo
 two-says n = or-says (same-says n 1) (same-says n 2)
 
-range-says : (most n : ℕ) → (from1to most n ≡ true) ↔ ((1 ≤ n) × (n ≤ most))
+-- from 1 to the most
+pub range-says : (most n : ℕ) → (from1to most n ≡ true) ↔ ((1 ≤ n) × (n ≤ most))
 unfolding from1to
 range-says most n = and-says (most-says 1 n) (most-says n most)
 

@@ -26,7 +26,7 @@ pub(crate) const SETTINGS: u32 = 1;
 
 pub(crate) const AWAY: u32 = 2;
 
-pub(crate) const SUBMIT: u32 = 3;
+pub const SUBMIT: u32 = 3;
 
 pub(crate) const TURN: u32 = 4;
 

@@ -1,4 +1,4 @@
--- The line that tells which line of a text is refused, and by which number: a word, as `write`, the number and the line.
+-- The line that tells which line of a text is refused, and by which number: a word, as `write`, the number, the line.
 use mathlib.Core.Path.{_≡_}
 use mathlib.Core.List.{List, [], _∷_, _++_}
 use Prim.Native.Nat.{ℕ, _+_}

@@ -1,4 +1,4 @@
-// The line that tells which line of a text is refused, and by which number: a word, as `write`, the number and the line.
+// The line that tells which line of a text is refused, and by which number: a word, as `write`, the number, the line.
 ghost use mathlib.Core.List.{[], _∷_};
 ghost use Prim.Native.Nat.{_+_, _≤_, _<_};
 ghost use lib.ListN.{length};

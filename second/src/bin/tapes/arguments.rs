@@ -3,8 +3,9 @@
 use std::ffi::{OsStr, OsString};
 use std::path::PathBuf;
 
-use crate::figures::ways;
+use crate::figures;
 use crate::flavours::{named, Flavour, FLAVOURS};
+use crate::sheets;
 
 /// What is asked for.
 pub enum Task {
@@ -27,6 +28,11 @@ pub enum Task {
         seed: u64,
         dir: PathBuf,
     },
+    Sheets {
+        count: u64,
+        seed: u64,
+        dir: PathBuf,
+    },
     Cuts {
         file: PathBuf,
         dir: PathBuf,
@@ -35,6 +41,9 @@ pub enum Task {
         files: Vec<PathBuf>,
     },
     FiguresReport {
+        files: Vec<PathBuf>,
+    },
+    SheetsReport {
         files: Vec<PathBuf>,
     },
     Show {
@@ -85,6 +94,12 @@ tapes --figures COUNT --seed S --dir DIR
 tapes --figures-report FILES..
     reads texts in figures and prints how often each outcome is reached, with a
     line `missing: NAME` and exit status 1 as --report has them
+tapes --sheets COUNT --seed S --dir DIR
+    writes COUNT order sheets, right, wrong and just beside right, as --figures
+    writes texts; MANY sheets are one round
+tapes --sheets-report FILES..
+    reads order sheets and prints how often each outcome is reached, with a
+    line `missing: NAME` and exit status 1 as --report has them
 tapes --compare DIR DIR
     compares the files of two folders by name and prints the first line that
     differs of each; the last line is `N passed, M failed`, and the exit
@@ -93,7 +108,9 @@ tapes --compare DIR DIR
 
 /// The text of --help.
 pub fn help() -> String {
-    let usage = USAGE.replace("ROUND", &ways().len().to_string());
+    let usage = USAGE
+        .replace("ROUND", &figures::ways().len().to_string())
+        .replace("MANY", &sheets::ways().len().to_string());
     let mut text = format!("{usage}\nflavours:\n");
     for flavour in &FLAVOURS {
         text.push_str(&format!("    {:<14}{}\n", flavour.name, flavour.about));
@@ -110,22 +127,24 @@ struct Given<'a> {
     files: Vec<PathBuf>,
 }
 
-const MODES: [&str; 7] = [
+const MODES: [&str; 8] = [
     "--cuts",
     "--report",
     "--figures-report",
+    "--sheets-report",
     "--show",
     "--make",
     "--figures-of",
     "--compare",
 ];
-const OPTIONS: [&str; 7] = [
+const OPTIONS: [&str; 8] = [
     "--seed",
     "--events",
     "--flavour",
     "--out",
     "--many",
     "--figures",
+    "--sheets",
     "--dir",
 ];
 
@@ -219,6 +238,7 @@ pub fn parse(arguments: &[OsString]) -> Result<Task, String> {
         }),
         Some("--report") => Ok(Task::Report { files: given.files }),
         Some("--figures-report") => Ok(Task::FiguresReport { files: given.files }),
+        Some("--sheets-report") => Ok(Task::SheetsReport { files: given.files }),
         Some("--figures-of") => Ok(Task::FiguresOf {
             file: given.input()?,
             out: given.path("--out"),
@@ -245,6 +265,10 @@ fn parse_writing(given: &Given) -> Result<Task, String> {
     if let Some(count) = given.number("--figures")? {
         let dir = given.dir()?;
         return Ok(Task::Figures { count, seed, dir });
+    }
+    if let Some(count) = given.number("--sheets")? {
+        let dir = given.dir()?;
+        return Ok(Task::Sheets { count, seed, dir });
     }
     let events = given.number("--events")?;
     let flavour = given.flavour()?;

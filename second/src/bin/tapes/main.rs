@@ -1,5 +1,5 @@
-//! Makes tapes and texts in figures, tells what they reach, and turns tapes into
-//! words and back.
+//! Makes tapes, texts in figures and order sheets, tells what they reach, and
+//! turns tapes into words and back.
 
 mod arguments;
 mod compare;
@@ -9,6 +9,8 @@ mod flavours;
 mod pen;
 mod purpose;
 mod report;
+mod sheets;
+mod ways;
 mod weather;
 
 use std::ffi::OsString;
@@ -21,6 +23,7 @@ use arguments::{help, parse, Task};
 use flavours::{round, Flavour};
 use second::ending::Trouble;
 use second::words;
+use ways::Way;
 
 fn main() -> ExitCode {
     let arguments: Vec<OsString> = std::env::args_os().skip(1).collect();
@@ -50,12 +53,14 @@ fn run(task: Task) -> Result<bool, Trouble> {
             dir,
         } => write_many(count, seed, only, events, &dir)?,
         Task::Figures { count, seed, dir } => write_figures(count, seed, &dir)?,
+        Task::Sheets { count, seed, dir } => write_sheets(count, seed, &dir)?,
         Task::Cuts { file, dir } => write_cuts(&file, &dir)?,
         Task::Show { file, places } => show_tape(file.as_deref(), places)?,
         Task::Make { file, out } => make_tape(file.as_deref(), out.as_deref())?,
         Task::FiguresOf { file, out } => show_figures(file.as_deref(), out.as_deref())?,
         Task::Report { files } => return report_on(&files),
         Task::FiguresReport { files } => return report_on_figures(&files),
+        Task::SheetsReport { files } => return report_on_sheets(&files),
         Task::Compare { one, other } => return compare_folders(&one, &other),
     }
     Ok(true)
@@ -90,11 +95,27 @@ fn write_many(
 }
 
 fn write_figures(count: u64, seed: u64, dir: &Path) -> Result<(), Trouble> {
+    let named = |name: String, text: figures::Text| (name + ".figures", text.bytes);
+    write_texts(&figures::ways(), count, seed, dir, named)
+}
+
+fn write_sheets(count: u64, seed: u64, dir: &Path) -> Result<(), Trouble> {
+    let named = |name: String, sheet: sheets::Sheet| (name + ".sheet", sheet.bytes);
+    write_texts(&sheets::ways(), count, seed, dir, named)
+}
+
+/// Writes texts of all ways in turn; `named` gives each its file name and bytes.
+fn write_texts<T>(
+    ways: &[Way<T>],
+    count: u64,
+    seed: u64,
+    dir: &Path,
+    named: impl Fn(String, T) -> (String, Vec<u8>),
+) -> Result<(), Trouble> {
     make_dir(dir)?;
-    let ways = figures::ways();
-    for (way, seed) in figures::round(&ways, count, seed) {
-        let file = dir.join(format!("{}-{seed}.figures", way.name));
-        put(Some(&file), &way.text(seed).bytes)?;
+    for (way, seed) in ways::round(ways, count, seed) {
+        let (file, bytes) = named(format!("{}-{seed}", way.name), way.text(seed));
+        put(Some(&dir.join(file)), &bytes)?;
     }
     Ok(())
 }
@@ -142,6 +163,16 @@ fn report_on(files: &[PathBuf]) -> Result<bool, Trouble> {
 
 fn report_on_figures(files: &[PathBuf]) -> Result<bool, Trouble> {
     let mut report = report::figures::Report::default();
+    for file in files {
+        report.read(&read(Some(file))?);
+    }
+    let (table, complete) = report.table();
+    put(None, table.as_bytes())?;
+    Ok(complete)
+}
+
+fn report_on_sheets(files: &[PathBuf]) -> Result<bool, Trouble> {
+    let mut report = report::sheets::Report::default();
     for file in files {
         report.read(&read(Some(file))?);
     }

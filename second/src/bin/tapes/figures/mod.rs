@@ -11,8 +11,6 @@ mod wrong;
 
 use second::figures::line;
 
-use crate::dice::Dice;
-
 /// A text being written.
 #[derive(Default)]
 pub struct Text {
@@ -43,35 +41,8 @@ impl Text {
     }
 }
 
-/// How the texts of a way are written: by chance, and one time round otherwise
-/// than the next.
-type Write = Box<dyn Fn(&mut Dice, bool) -> Text>;
-
-/// A kind of text.
-pub struct Way {
-    pub name: String,
-    write: Write,
-}
-
-impl Way {
-    fn new(name: impl Into<String>, write: impl Fn(&mut Dice, bool) -> Text + 'static) -> Way {
-        Way {
-            name: name.into(),
-            write: Box::new(write),
-        }
-    }
-
-    /// The text of this way and seed. The name has its part in the chance, so
-    /// that the ways of one seed do not all have the same right lines.
-    pub fn text(&self, seed: u64) -> Text {
-        let named = self.name.bytes().fold(0_u64, |sum, byte| {
-            sum.wrapping_mul(31).wrapping_add(u64::from(byte))
-        });
-        let odd = named.wrapping_add(seed) % 2 == 1;
-        let mut dice = Dice::new(named.rotate_left(32) ^ seed);
-        (self.write)(&mut dice, odd)
-    }
-}
+/// A kind of text in figures.
+pub type Way = crate::ways::Way<Text>;
 
 /// All ways: right texts and texts of a special shape first, then one for each
 /// wrong line.
@@ -81,30 +52,15 @@ pub fn ways() -> Vec<Way> {
     ways
 }
 
-/// The ways and seeds of a set of texts: all ways in turn, the seed rising by
-/// one each time round.
-pub fn round(ways: &[Way], count: u64, seed: u64) -> impl Iterator<Item = (&Way, u64)> {
-    let seeds = (0..).map(move |turn| seed.wrapping_add(turn));
-    seeds
-        .flat_map(|seed| ways.iter().map(move |way| (way, seed)))
-        .take(usize::try_from(count).unwrap_or(usize::MAX))
-}
-
 #[cfg(test)]
 mod tests {
     use super::*;
+    use crate::ways::checks::{by_seed, named_apart, rounds};
     use second::figures::{numbers, Events};
-
-    fn two_rounds(mut look: impl FnMut(&Way, &Text)) {
-        let ways = ways();
-        for (way, seed) in round(&ways, 2 * ways.len() as u64, 1) {
-            look(way, &way.text(seed));
-        }
-    }
 
     #[test]
     fn a_text_is_refused_exactly_at_its_wrong_line() {
-        two_rounds(|way, text| {
+        rounds(&ways(), 2, |way, text| {
             let mut events = Events::new(text.bytes.as_slice());
             let refused = loop {
                 match events.event().unwrap() {
@@ -119,7 +75,7 @@ mod tests {
 
     #[test]
     fn event_numbers_are_those_of_today_or_those_that_stay_unknown() {
-        two_rounds(|way, text| {
+        rounds(&ways(), 2, |way, text| {
             for line in text.bytes.split(|byte| *byte == b'\n') {
                 let event = numbers(line).and_then(|numbers| numbers.first().copied());
                 assert!(!matches!(event, Some(6..=13)), "{}", way.name);
@@ -129,14 +85,10 @@ mod tests {
 
     #[test]
     fn a_seed_gives_the_same_text_again_and_another_seed_another() {
-        let mut same = 0;
-        for way in ways() {
-            let text = way.text(5).bytes;
-            assert_eq!(way.text(5).bytes, text, "{}", way.name);
-            same += usize::from(way.text(6).bytes == text);
-        }
+        let ways = ways();
+        let differing = by_seed(&ways, |text| text.bytes);
         // Some ways have one text alone, as that of 0 bytes.
-        assert!(same < 20, "{same}");
+        assert!(ways.len() - differing < 20, "{differing}");
     }
 
     #[test]
@@ -147,16 +99,6 @@ mod tests {
 
     #[test]
     fn no_name_is_another_or_starts_one() {
-        let ways = ways();
-        for (place, way) in ways.iter().enumerate() {
-            let start = format!("{}-", way.name);
-            for other in &ways[..place] {
-                assert_ne!(way.name, other.name);
-            }
-            assert!(
-                ways.iter().all(|other| !other.name.starts_with(&start)),
-                "{start}"
-            );
-        }
+        named_apart(&ways());
     }
 }

@@ -7,6 +7,7 @@ mod calls;
 mod damage;
 pub mod figures;
 mod openings;
+pub mod sheets;
 mod turns;
 
 use std::collections::BTreeMap;
@@ -16,6 +17,15 @@ use second::session::Session;
 use second::settings::Grid;
 use second::tape::{call, Answer, Event, Reader};
 use second::units::Cents;
+
+/// As many bytes as a program may well read at a time.
+const BUFFER: usize = 65_536;
+
+/// The line of a text that starts at this place, with its newline if it has one.
+fn line_at(text: &[u8], place: usize) -> &[u8] {
+    let mut lines = text[place..].split_inclusive(|byte| *byte == b'\n');
+    lines.next().unwrap_or_default()
+}
 
 /// How often each outcome was reached, by name.
 #[derive(Default)]

@@ -8,10 +8,7 @@ mod wrong;
 
 use second::figures::{numbers, Events};
 
-use super::Counts;
-
-/// As many bytes as a program may well read at a time.
-const BUFFER: usize = 65_536;
+use super::{line_at, Counts, BUFFER};
 
 /// The length above which a line is very long.
 const LONG_LINE: usize = 70_000;
@@ -66,16 +63,11 @@ impl Report {
     }
 }
 
-/// The line that starts at this place, with its newline if it has one.
-fn line_at(text: &[u8], place: usize) -> &[u8] {
-    let mut lines = text[place..].split_inclusive(|byte| *byte == b'\n');
-    lines.next().unwrap_or_default()
-}
-
 #[cfg(test)]
 mod tests {
     use super::*;
-    use crate::figures::{round, ways};
+    use crate::figures::ways;
+    use crate::ways::round;
 
     #[test]
     fn every_round_reaches_every_outcome() {

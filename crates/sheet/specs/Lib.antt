@@ -1,0 +1,21 @@
+-- An order sheet: its lines, and what is told of a whole one.
+pub mod Bytes
+pub mod Line
+pub mod Sheet
+pub mod Submits
+pub mod Reading
+pub mod Parts
+pub mod Words
+pub mod Spelling
+pub mod OrderSheet
+pub mod BytesLaws
+pub mod LineLaws
+pub mod ReadingLaws
+pub mod ToldLaws
+pub mod PartsLaws
+pub mod FieldLaws
+pub mod RightLaws
+pub mod SaysLaws
+pub mod SpellingLaws
+pub mod OrderSheetProof
+pub mod Examples
