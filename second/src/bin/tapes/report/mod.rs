@@ -167,7 +167,47 @@ impl Report {
 }
 
 #[cfg(test)]
+pub mod checks {
+    use crate::ways::{round, Way};
+
+    /// Checks that no name is another.
+    pub fn all_different(mut names: Vec<String>) {
+        let count = names.len();
+        names.sort();
+        names.dedup();
+        assert_eq!(names.len(), count);
+    }
+
+    /// Checks that each of these names has a count of one in the table, and
+    /// that none is missing.
+    pub fn reached_once(table: &str, names: &[&str]) {
+        for name in names {
+            assert!(table.contains(&format!("        1  {name}\n")), "{name}");
+            assert!(!table.contains(&format!("missing: {name}\n")), "{name}");
+        }
+    }
+
+    /// Checks that one round of the ways is enough for a whole report, with
+    /// each of the first twelve seeds.
+    pub fn every_round<T, R: Default>(
+        ways: &[Way<T>],
+        read: impl Fn(&mut R, T),
+        table: impl Fn(&R) -> (String, bool),
+    ) {
+        for seed in 1..=12 {
+            let mut report = R::default();
+            for (way, seed) in round(ways, ways.len() as u64, seed) {
+                read(&mut report, way.text(seed));
+            }
+            let (table, complete) = table(&report);
+            assert!(complete, "seed {seed}: {table}");
+        }
+    }
+}
+
+#[cfg(test)]
 mod tests {
+    use super::checks::all_different;
     use super::*;
     use crate::flavours::{named, round};
 
@@ -192,10 +232,6 @@ mod tests {
 
     #[test]
     fn names_are_all_different() {
-        let mut names = names();
-        let count = names.len();
-        names.sort();
-        names.dedup();
-        assert_eq!(names.len(), count);
+        all_different(names());
     }
 }

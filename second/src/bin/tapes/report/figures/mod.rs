@@ -66,20 +66,13 @@ impl Report {
 #[cfg(test)]
 mod tests {
     use super::*;
-    use crate::figures::ways;
-    use crate::ways::round;
+    use crate::figures::{ways, Text};
+    use crate::report::checks::{all_different, every_round, reached_once};
 
     #[test]
     fn every_round_reaches_every_outcome() {
-        let ways = ways();
-        for seed in 1..=12 {
-            let mut report = Report::default();
-            for (way, seed) in round(&ways, ways.len() as u64, seed) {
-                report.read(&way.text(seed).bytes);
-            }
-            let (table, complete) = report.table();
-            assert!(complete, "seed {seed}: {table}");
-        }
+        let read = |report: &mut Report, text: Text| report.read(&text.bytes);
+        every_round(&ways(), read, Report::table);
     }
 
     #[test]
@@ -94,10 +87,7 @@ mod tests {
             "write 41 two events, open first",
             "write 41 in the last of several lines",
         ];
-        for name in reached {
-            assert!(table.contains(&format!("        1  {name}\n")), "{name}");
-            assert!(!table.contains(&format!("missing: {name}\n")), "{name}");
-        }
+        reached_once(&table, &reached);
         assert!(table.contains("missing: write 41 empty line\n"));
         let last = table.lines().last().unwrap();
         assert!(last.starts_with("1 texts, 2 events, "), "{last}");
@@ -105,10 +95,6 @@ mod tests {
 
     #[test]
     fn names_are_all_different() {
-        let mut names = names();
-        let count = names.len();
-        names.sort();
-        names.dedup();
-        assert_eq!(names.len(), count);
+        all_different(names());
     }
 }

@@ -71,20 +71,13 @@ impl Report {
 #[cfg(test)]
 mod tests {
     use super::*;
-    use crate::sheets::ways;
-    use crate::ways::round;
+    use crate::report::checks::{all_different, every_round, reached_once};
+    use crate::sheets::{ways, Sheet};
 
     #[test]
     fn every_round_reaches_every_outcome() {
-        let ways = ways();
-        for seed in 1..=12 {
-            let mut report = Report::default();
-            for (way, seed) in round(&ways, ways.len() as u64, seed) {
-                report.read(&way.text(seed).bytes);
-            }
-            let (table, complete) = report.table();
-            assert!(complete, "seed {seed}: {table}");
-        }
+        let read = |report: &mut Report, sheet: Sheet| report.read(&sheet.bytes);
+        every_round(&ways(), read, Report::table);
     }
 
     #[test]
@@ -101,10 +94,7 @@ mod tests {
             "sheet 43 side before a wrong price",
             "sheet refused in the last of several lines",
         ];
-        for name in reached {
-            assert!(table.contains(&format!("        1  {name}\n")), "{name}");
-            assert!(!table.contains(&format!("missing: {name}\n")), "{name}");
-        }
+        reached_once(&table, &reached);
         assert!(table.contains("missing: sheet 44 empty line\n"));
         let last = table.lines().last().unwrap();
         assert!(last.starts_with("1 sheets, 2 orders, "), "{last}");
@@ -112,10 +102,6 @@ mod tests {
 
     #[test]
     fn names_are_all_different() {
-        let mut names = names();
-        let count = names.len();
-        names.sort();
-        names.dedup();
-        assert_eq!(names.len(), count);
+        all_different(names());
     }
 }
