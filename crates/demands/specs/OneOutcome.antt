@@ -162,7 +162,6 @@ use Rattle.window.proofs.program.tell.Reads as window-tell
 use Rattle.window.proofs.program.status_after.Reads as window-status-after
 use Rattle.window.proofs.program.status_of.Reads as window-status-of
 use Rattle.window.proofs.program.tell_line.Reads as window-tell-line
-use Rattle.window.proofs.refusal.refusal_line.Reads as window-refusal-line
 use Rattle.playing.proofs.play.Reads as playing-play
 
 -- the result is the same
@@ -807,9 +806,6 @@ one-window-status-of κs a z z′ e e′ = same
 
 pub one-window-tell-line : OneResult window-tell-line.Post
 one-window-tell-line κs a z z′ e e′ p q = refl
-
-pub one-window-refusal-line : OneOutcome window-refusal-line.Post (λ e. first (e .1 .1 .1))
-one-window-refusal-line κs a z z′ e e′ p q = (same (p .after) (q .after), alone (p .laid) (q .laid))
 
 -- ---- playing
 

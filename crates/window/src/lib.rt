@@ -4,7 +4,7 @@
 // A signal may interrupt a read or a write before it moves a byte, which is no failure. A read that is interrupted
 // gives nothing and says that the file may go on, so a loop over the file reads again; a write is tried again.
 pub mod program;
-pub mod refusal;
+mod refusal;
 pub mod writing;
 
 ghost use mathlib.Core.Path.{_≡_};

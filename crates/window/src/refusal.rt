@@ -12,7 +12,7 @@ const SPACE: u8 = 32;
 const NEWLINE: u8 = 10;
 
 // The bytes behind its word and the space: ten digits, a space, twenty digits and the newline.
-pub const LONGEST_BEHIND: usize = 32;
+pub(crate) const LONGEST_BEHIND: usize = 32;
 
 // The digits of a number from a place on.
 fn digits(n: u64, out: &mut [u8], at: usize) -> usize
@@ -52,7 +52,7 @@ fn put(b: u8, out: &mut [u8], at: usize) -> usize
 
 // Lays the line out from the front of the lent memory, with a word and the space behind it in front, and answers the
 // place after it.
-pub fn refusal_line(what: &[u8], code: u32, line: u64, out: &mut [u8]) -> usize
+pub(crate) fn refusal_line(what: &[u8], code: u32, line: u64, out: &mut [u8]) -> usize
     requires { ⌜ length (now what) + longestBehind ≤ length (now out) ⌝ }
     ensures { λ r. ⌜ Lays (now (out .entry)) 0 (refusalLine (now (what .entry)) code line) r (now (out .exit)) ⌝ }
 {
