@@ -171,7 +171,7 @@ module _ (s : List ℕ) (i v : ℕ) (g : Read s i v) where
 
 -- the bytes passed are the same
 abbrev pub Compared : List ℕ → List ℕ → ℕ → Type 0
-Compared s t i = (length s ≡ length t) × (i ≤ length s) × (same s t ≡ same (drop i s) (drop i t))
+Compared s t i = (length s ≡ length t) × (i ≤ length t) × (same s t ≡ same (drop i s) (drop i t))
 
 pub compare-starts : (s t : List ℕ) → length s ≡ length t → Compared s t 0
 compare-starts s t h = (h, omega arith, refl)
@@ -188,18 +188,18 @@ other-length (a ∷ s) (b ∷ t) n = go (eqb a b) (other-length s t (λ e. n (ap
     go false rest = refl
 
 module _ (s t : List ℕ) (i : ℕ) (g : Compared s t i) where
-  compared-next : i < length s → same s t ≡ (eqb (at s i) (at t i) and same (drop (i + 1) s) (drop (i + 1) t))
+  compared-next : i < length t → same s t ≡ (eqb (at s i) (at t i) and same (drop (i + 1) s) (drop (i + 1) t))
   unfolding same
-  compared-next h = g .2 ∙ rw (next s i h, next t i (omega arith))
+  compared-next h = g .2 ∙ rw (next s i (omega arith), next t i h)
 
-  pub compare-goes-on : i < length s → at s i ≡ at t i → Compared s t (i + 1)
+  pub compare-goes-on : i < length t → at s i ≡ at t i → Compared s t (i + 1)
   unfolding _and_
   compare-goes-on h e = (g .0, omega arith, compared-next h ∙ rw (eq-eqb (at s i) (at t i) e))
 
-  pub compare-fails : i < length s → (at s i ≡ at t i → ⊥) → false ≡ same s t
+  pub compare-fails : i < length t → (at s i ≡ at t i → ⊥) → false ≡ same s t
   unfolding _and_
   compare-fails h n = sym (compared-next h ∙ rw (ne-eqb (at s i) (at t i) n))
 
-  pub compare-ends : length s ≤ i → true ≡ same s t
+  pub compare-ends : length t ≤ i → true ≡ same s t
   unfolding same
-  compare-ends h = sym (g .2 ∙ rw (drop-of-length-le s h, drop-of-length-le t {i = i} (omega arith)))
+  compare-ends h = sym (g .2 ∙ rw (drop-of-length-le s {i = i} (omega arith), drop-of-length-le t h))

@@ -90,7 +90,7 @@ pub(crate) fn is_word(s: &[u8], word: &[u8]) -> bool
         return false;
     }
     let mut i: usize = 0;
-    while i < s.len() {
+    while i < word.len() {
         if s[i] != word[i] {
             return false;
         }

@@ -21,7 +21,7 @@ use units::words::is_not;
 ghost use mathlib.Core.Path.{_≡_};
 ghost use mathlib.Core.Bool.{true};
 ghost use Rattle.units.specs.Cases.{firstOf};
-ghost use Rattle.sheet.specs.Line.{restAt, fieldAt, isTenant, isSide, isSize, isKind, isDollars, isPrice, isLife, wrongTerms, wrongField, faultOf, sideOf, kindOf, priceOf, lifeOf, orderOf, lineOf};
+ghost use Rattle.sheet.specs.Line.{restAt, fieldAt, lifeField, isTenant, isSide, isSize, isKind, isDollars, isPrice, isLife, wrongTerms, wrongField, faultOf, sideOf, kindOf, priceOf, lifeOf, orderOf, lineOf};
 
 const SPACE: u8 = 32;
 
@@ -73,6 +73,13 @@ fn field(line: &[u8], i: u32) -> &[u8]
     ensures { λ r. ⌜ now r ≡ fieldAt i (now (line .entry)) ⌝ }
 {
     before(rest(line, i), SPACE)
+}
+
+// The last field, which no space ends.
+fn last_field(line: &[u8]) -> &[u8]
+    ensures { λ r. ⌜ now r ≡ lifeField (now (line .entry)) ⌝ }
+{
+    rest(line, 5)
 }
 
 fn is_tenant(f: &[u8]) -> bool
@@ -140,7 +147,7 @@ fn wrong_terms(line: &[u8]) -> u32
 {
     let kind = field(line, 3);
     let price = is_not(is_price(kind, field(line, 4)));
-    let life = is_not(is_life(rest(line, 5)));
+    let life = is_not(is_life(last_field(line)));
     first(
         is_not(is_kind(kind)),
         KIND,
@@ -210,7 +217,7 @@ fn order_of(line: &[u8]) -> Order
         entry: Entry {
             kind: kind_of(kind),
             side: side_of(field(line, 1)),
-            life: life_of(rest(line, 5)),
+            life: life_of(last_field(line)),
             price: Cents(price_of(kind, field(line, 4))),
             size: Contracts(value(field(line, 2))),
             number: 0,

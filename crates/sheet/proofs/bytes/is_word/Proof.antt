@@ -1,5 +1,6 @@
--- `sheet::bytes::is_word` meets its contract: the bytes passed are the same. The measure is what is left of the bytes.
+-- `sheet::bytes::is_word` meets its contract: the bytes passed are the same. The measure is what is left of the word.
 use Prim.Native.Nat.{_-_}
+use native.Mathlib.Omega.{arith}
 use borrow.Author.Needs.{needs}
 use lib.ListN.{length}
 use Rattle.sheet.specs.BytesLaws.{other-length, Compared, compare-starts, compare-goes-on, compare-fails, compare-ends}
@@ -10,7 +11,7 @@ abbrev Inv-loop : tie.InvT-loop
 Inv-loop s word i₀ i = Compared s word i
 
 abbrev μ-loop : tie.MeasureT-loop
-μ-loop s word i₀ i = length s - i
+μ-loop s word i₀ i = length word - i
 
 pub is-word-spec : {M : Type 1} → statement M
 is-word-spec =
@@ -18,8 +19,8 @@ is-word-spec =
     (tie.spec
     Inv-loop
     μ-loop
-    (λ c. other-length _ _ (c .if1 .taken))
-    (λ c. compare-starts _ _ (c .if1 .left))
+    (λ c. other-length _ _ (λ e. omega arith))
+    (λ c. compare-starts _ _ (omega arith))
     (λ c. search needs)
     (λ c. search needs)
     (λ c. compare-fails _ _ _ (c .before .before .before .before .loop .inv) (c .before .before .before .loop-test .taken) (c .if2 .taken))

@@ -18,4 +18,14 @@ is-dollars-spec =
     (λ c κs. search needs)
     (λ c κs. search needs)
     (λ c κs. search needs)
-    (λ c. cc))
+    (λ c.
+    rw (
+      c .both4 .ensures,
+      c .before .both3 .ensures,
+      c .before .before .all-digits2 .ensures,
+      c .before .before .before .both2 .ensures,
+      c .before .before .before .before .all-digits .ensures,
+      c .before .before .before .before .before .both .ensures,
+      c .before .before .before .before .before .before .behind .ensures,
+      c .before .before .before .before .before .before .before .before2 .ensures,
+    )))

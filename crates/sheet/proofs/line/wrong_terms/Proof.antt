@@ -19,4 +19,18 @@ wrong-terms-spec =
     (λ c κs. search needs)
     (λ c κs. search needs)
     (λ c κs. search needs)
-    (λ c. cc))
+    (λ c.
+    rw (
+      c .first3 .ensures,
+      c .before .first2 .ensures,
+      c .before .before .first .ensures,
+      c .before .before .before .is-not3 .ensures,
+      c .before .before .before .before .is-kind .ensures,
+      c .before .before .before .before .before .is-not2 .ensures,
+      c .before .before .before .before .before .before .is-life .ensures,
+      c .before .before .before .before .before .before .before .last-field .ensures,
+      c .before .before .before .before .before .before .before .before .is-not .ensures,
+      c .before .before .before .before .before .before .before .before .before .is-price .ensures,
+      c .before .before .before .before .before .before .before .before .before .before .field2 .ensures,
+      c .before .before .before .before .before .before .before .before .before .before .before .field .ensures,
+    )))
