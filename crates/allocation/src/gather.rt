@@ -20,7 +20,7 @@ use units::{Cents, Contracts, Total};
 pub(crate) const UNFILLED: u32 = 1;
 
 // The best key from a floor on among those gathered, and what is held there.
-#[derive(Drop)]
+#[derive(Clone, Copy)]
 pub(crate) struct Best {
     pub key: u64,
     pub total: Total,

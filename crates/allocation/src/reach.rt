@@ -14,7 +14,7 @@ use rows::{Column, NO_KEY, NO_NUMBER, ROWS};
 use units::{Cents, Contracts, Total};
 
 // The first key whose rows hold more than what is left of the order there, and what is left.
-#[derive(Drop)]
+#[derive(Clone, Copy)]
 pub struct Edge {
     pub key: u64,
     pub left: Contracts,

@@ -1,5 +1,7 @@
 // The matching crate: what an incoming order trades with the resting rows, what rests and what is cancelled, what the
 // number of an order says, and the fill records.
+#![tactic(auto)]
+
 pub mod lookup;
 pub mod quotes;
 pub mod records;
@@ -10,7 +12,7 @@ pub mod trading;
 use units::{Cents, Contracts};
 
 // One fill: order number, tenant, quantity, price.
-#[derive(Drop)]
+#[derive(Clone, Copy)]
 pub struct Fill {
     pub number: u32,
     pub tenant: u32,

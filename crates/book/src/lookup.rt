@@ -8,7 +8,7 @@ use rows::{Column, ROWS};
 
 // It rests for this tenant, in that row; or it has been given out since the reset, and does not rest for this tenant;
 // or it was never given.
-#[derive(Drop)]
+#[derive(Clone, Copy)]
 pub enum Found {
     Rests(usize),
     GivenOut,

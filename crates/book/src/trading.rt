@@ -17,7 +17,7 @@ use rows::{Column, ROWS};
 use units::{Cents, Contracts, Total};
 
 // Contracts filled, and how many records were written.
-#[derive(Drop)]
+#[derive(Clone, Copy)]
 pub struct Traded {
     pub filled: Contracts,
     pub fills: usize,

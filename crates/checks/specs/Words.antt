@@ -1,6 +1,6 @@
 -- The turn-downs in the words of the paper: what the test of each number says, and what an order is judged as.
+use mathlib.Core.Logic.Iff
 use Rattle.std.specs.Prelude.{◌≡◌, refl, ◌↔◌, ◌⊎◌, true, false, ◌+◌, ◌-◌, ◌*◌, ◌≤◌, ◌<◌}
-use Rattle.std.proofs.Math.Logic.{Iff·rfl, Iff·trans}
 use Rattle.units.specs.Grid.{lowest_of}
 use Rattle.units.specs.GridLaws.{StepDivides, on_says}
 use Rattle.units.specs.Tests.{pick_yes, pick_no, fails}
@@ -34,31 +34,31 @@ module _ (e : Entry) (q : Quotes) (t : Terms) (s : Standing) where
 
   pub at_strike_says : (at_strike e t ≡ true) ↔ ((e.kind ≡ 1) × (e.side ≡ 1) × (t.put ≡ true) × (t.strike.0 ≤ e.price.0))
   unfolding at_strike
-  at_strike_says = Iff·trans
-      (and_says (and_says (same_says _ _) (same_says _ _)) (and_says Iff·rfl (most_says _ _)))
+  at_strike_says = Iff.trans
+      (and_says (and_says (same_says _ _) (same_says _ _)) (and_says Iff.rfl (most_says _ _)))
       (λ ((k, side), (put, least)). (k, side, put, least), λ (k, side, put, least). ((k, side), (put, least)))
 
   pub no_offer_says : (no_offer e q ≡ true) ↔ ((e.kind ≡ 2) × (e.side ≡ 1) × (q.nbo.0 ≡ 0))
   unfolding no_offer
-  no_offer_says = Iff·trans
+  no_offer_says = Iff.trans
       (and_says (and_says (same_says _ _) (same_says _ _)) (same_says _ _))
       (λ ((k, side), none). (k, side, none), λ (k, side, none). ((k, side), none))
 
   unbid_says : (unbid e q ≡ true) ↔ ((e.kind ≡ 2) × (e.side ≡ 2) × (q.nbb.0 ≡ 0))
   unfolding unbid
-  unbid_says = Iff·trans
+  unbid_says = Iff.trans
       (and_says (and_says (same_says _ _) (same_says _ _)) (same_says _ _))
       (λ ((k, side), none). (k, side, none), λ (k, side, none). ((k, side), none))
 
   pub no_bid_says : (no_bid e q ≡ true) ↔ ((e.kind ≡ 2) × (e.side ≡ 2) × (q.nbb.0 ≡ 0) × (50 < q.nbo.0))
   unfolding no_bid
-  no_bid_says = Iff·trans
+  no_bid_says = Iff.trans
       (and_says unbid_says (less_says _ _))
       (λ ((k, side, none), high). (k, side, none, high), λ (k, side, none, high). ((k, side, none), high))
 
   converts_says : (converts e q ≡ true) ↔ BecomesLimit e q
   unfolding converts
-  converts_says = Iff·trans
+  converts_says = Iff.trans
       (and_says unbid_says (most_says _ _))
       (λ ((k, side, none), low). (k, side, none, low), λ (k, side, none, low). ((k, side, none), low))
 
@@ -74,19 +74,19 @@ module _ (e : Entry) (q : Quotes) (t : Terms) (s : Standing) where
       ((e.kind ≡ 2) × (0 < q.nbb.0) × (0 < q.nbo.0) × (t.least.0 < q.nbo.0 - q.nbb.0)
       × ((t.greatest.0 < q.nbo.0 - q.nbb.0) ⊎ (t.percent * (q.nbb.0 + q.nbo.0) < 200 * (q.nbo.0 - q.nbb.0))))
   unfolding too_wide above_percent
-  too_wide_says = Iff·trans
+  too_wide_says = Iff.trans
       (and_says (and_says (same_says _ _) (and_says (less_says _ _) (less_says _ _))) (and_says (less_says _ _) (or_says (less_says _ _) (less_says _ _))))
       (λ ((k, (bid, offer)), (wide, wider)). (k, bid, offer, wide, wider), λ (k, bid, offer, wide, wider). ((k, (bid, offer)), (wide, wider)))
 
   far_buy_says : (far_buy e q t ≡ true) ↔ ((e.side ≡ 1) × (0 < q.nbo.0) × (q.nbo.0 + t.far.0 < e.price.0))
   unfolding far_buy
-  far_buy_says = Iff·trans
+  far_buy_says = Iff.trans
       (and_says (and_says (same_says _ _) (less_says _ _)) (less_says _ _))
       (λ ((side, offer), far). (side, offer, far), λ (side, offer, far). ((side, offer), far))
 
   far_sell_says : (far_sell e q t ≡ true) ↔ ((e.side ≡ 2) × (0 < q.nbb.0) × (e.price.0 + t.far.0 < q.nbb.0))
   unfolding far_sell
-  far_sell_says = Iff·trans
+  far_sell_says = Iff.trans
       (and_says (and_says (same_says _ _) (less_says _ _)) (less_says _ _))
       (λ ((side, bid), far). (side, bid, far), λ (side, bid, far). ((side, bid), far))
 
@@ -95,8 +95,8 @@ module _ (e : Entry) (q : Quotes) (t : Terms) (s : Standing) where
       × (((e.side ≡ 1) × (0 < q.nbo.0) × (q.nbo.0 + t.far.0 < e.price.0))
       ⊎ ((e.side ≡ 2) × (0 < q.nbb.0) × (e.price.0 + t.far.0 < q.nbb.0))))
   unfolding far_price
-  far_price_says = Iff·trans
-      (and_says (and_says Iff·rfl (same_says _ _)) (or_says far_buy_says far_sell_says))
+  far_price_says = Iff.trans
+      (and_says (and_says Iff.rfl (same_says _ _)) (or_says far_buy_says far_sell_says))
       (λ ((opened, k), far). (opened, k, far), λ (opened, k, far). ((opened, k), far))
 
   pub might_rest_says : (might_rest e ≡ true) ↔ ((e.kind ≡ 1) × (e.life ≡ 1))
@@ -105,7 +105,7 @@ module _ (e : Entry) (q : Quotes) (t : Terms) (s : Standing) where
 
   pub no_room_says : (no_room e s ≡ true) ↔ ((e.kind ≡ 1) × (e.life ≡ 1) × (24 ≤ s.resting))
   unfolding no_room
-  no_room_says = Iff·trans
+  no_room_says = Iff.trans
       (and_says might_rest_says (most_says _ _))
       (λ ((k, day), many). (k, day, many), λ (k, day, many). ((k, day), many))
 

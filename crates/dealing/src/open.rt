@@ -16,7 +16,7 @@ use units::{Cents, Contracts};
 
 // Which way an open goes: refused by a number; quiet, where no resting buy is at or above a resting sell; or at the
 // price chosen.
-#[derive(Drop)]
+#[derive(Clone, Copy)]
 pub enum Way {
     Refused(u32),
     Quiet,
@@ -75,7 +75,7 @@ pub fn which_way(
 }
 
 // The tallies after an opening, contracts matched, and how many fill records were written.
-#[derive(Drop)]
+#[derive(Clone, Copy)]
 pub struct Counted {
     pub tallies: Tallies,
     pub volume: Contracts,

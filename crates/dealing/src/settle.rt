@@ -15,7 +15,7 @@ use units::words::either;
 use units::{Cents, Contracts};
 
 // The tallies after the trade, contracts filled, and how many fill records were written.
-#[derive(Drop)]
+#[derive(Clone, Copy)]
 pub struct Settled {
     pub tallies: Tallies,
     pub filled: Contracts,

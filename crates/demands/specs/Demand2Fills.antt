@@ -1,8 +1,8 @@
 -- Demand 2's fills: the laws of the allocation, of the bound and of the records, told of an accepted order.
+use mathlib.Core.Logic.Iff
 use Rattle.std.specs.Prelude.{◌≡◌, ◌↔◌, ◌⊎◌, Bool, true, false, ◌&&◌, List, ℕ, ◌+◌, ◌-◌, ◌*◌, ◌/◌, ◌%◌, ◌≤◌, ◌<◌, ltb, eqb}
 use Rattle.std.proofs.Math.Path.{refl, sym, ap}
 use Rattle.std.proofs.Common.{◌∙◌, ⊎_elim, add-zero, arith}
-use Rattle.std.proofs.Math.Logic.{Iff·trans}
 use Rattle.std.proofs.Math.Bool.{cond}
 use borrow.Author.Tests.{lt-ltb, le-ltb, le-leb, lt-leb, eq-eqb, ne_eqb, eqb-true, ltb-true, leb-true}
 use Rattle.units.specs.Tests.{pick, pick_yes, pick_no}
@@ -222,7 +222,7 @@ module _ (m : Market) (ready : Ready (floor_on m.session m.book)) (t : ℕ) wher
   may_buy h i p =
       let buys = eqb-true e.side 1 h in
       let says = buy_bound_says e (quotes_in m) m.session.terms (price_at b i) buys in
-      rw (buys_offers e h) (Iff·trans (open_says 2 (bound_in m t) (side_at b i) (price_at b i) (size_at b i)) (
+      rw (buys_offers e h) (Iff.trans (open_says 2 (bound_in m t) (side_at b i) (price_at b i) (size_at b i)) (
         λ (rests, on, w).
             let priced = row_of ready.book i p rests in
             to_buy buys (record { row = p; rests = rests; on = on }) ((says priced.price_least priced.price_most).0 (leb-true _ _ w)),
@@ -239,7 +239,7 @@ module _ (m : Market) (ready : Ready (floor_on m.session m.book)) (t : ℕ) wher
   may_sell h i p =
       let sells = eqb-true e.side 2 h in
       let says = sell_bound_says e (quotes_in m) m.session.terms (price_at b i) sells in
-      rw (sells_bids e h) (Iff·trans (open_says 1 (bound_in m t) (side_at b i) (price_at b i) (size_at b i)) (
+      rw (sells_bids e h) (Iff.trans (open_says 1 (bound_in m t) (side_at b i) (price_at b i) (size_at b i)) (
         λ (rests, on, w). to_sell sells (record { row = p; rests = rests; on = on }) ((says (row_of ready.book i p rests).price_least).0 (leb-true _ _ w)),
         λ may. elim may [
           | to_buy buys r w ↦ absurd (omega arith)

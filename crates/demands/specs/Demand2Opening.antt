@@ -1,8 +1,8 @@
 -- Demand 2's opening: the laws of the match at one price, told of an accepted open.
+use mathlib.Core.Logic.Iff
 use Rattle.std.specs.Prelude.{◌≡◌, ◌↔◌, Bool, true, false, ◌&&◌, ◌||◌, List, ℕ, ◌+◌, ◌-◌, ◌≤◌, ◌<◌, leb, ltb, eqb}
 use Rattle.std.proofs.Math.Path.{refl, sym, subst}
 use Rattle.std.proofs.Common.{◌∙◌, ap, arith}
-use Rattle.std.proofs.Math.Logic.{Iff·trans}
 use Rattle.std.proofs.Math.Bool.{cond}
 use Rattle.units.specs.Tests.{fails, holds_not_fails}
 use Rattle.units.specs.Says.{same_says, less_says, most_says, &&-says, ||-says}
@@ -112,7 +112,7 @@ module _ (b : Book) (next : ℕ) (sound : SoundBook b next) (p : ℕ) where
 
 -- a row that goes is on the side, something of that side remains, and its price meets the other side's
 three_say : (side s within low high : ℕ) → ((eqb side s && ltb 0 within && leb low high) ≡ true) ↔ ((side ≡ s) × (0 < within) × (low ≤ high))
-three_say side s within low high = Iff·trans
+three_say side s within low high = Iff.trans
     (&&-says (&&-says (same_says side s) (less_says 0 within)) (most_says low high))
     (λ ((on, some), price). (on, some, price), λ (on, some, price). ((on, some), price))
 

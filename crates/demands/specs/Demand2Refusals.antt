@@ -1,8 +1,9 @@
 -- Demand 2's refusals: each call's list of tests reads as its rules.
+use mathlib.Core.Logic.Iff
 use Rattle.std.specs.Prelude.{◌≡◌, ◌↔◌, ◌⊎◌, Bool, true, false, cond, List, ℕ, ◌*◌, ◌%◌, ◌≤◌, ◌<◌, eqb, length}
 use Rattle.std.proofs.Math.Path.{refl, sym, ap}
 use Rattle.std.proofs.Common.{◌∙◌, inl, inr, true≢false}
-use Rattle.std.proofs.Math.Logic.{⊎_map, Iff·rfl, Iff·trans}
+use Rattle.std.proofs.Math.Logic.{⊎_map}
 use native.Mathlib.Omega.{arith}
 use Rattle.std.proofs.Math.Dec.{leb}
 use borrow.Author.Tests.{lt-ltb, le-ltb, ltb-true, ltb-false, le-leb, leb-true, eq-eqb, eqb-true, eqb-false}
@@ -170,12 +171,12 @@ module _ (m : Market) (lent : ℕ) (was : List ℕ) where
 
   no_price_says : (none_valid (choice_of m.session) ≡ true) ↔ NoPrice (sources_of m.session)
   unfolding choice_in
-  no_price_says = Iff·trans (none_valid_lem (sources_of m.session)) (none_says (sources_of m.session))
+  no_price_says = Iff.trans (none_valid_lem (sources_of m.session)) (none_says (sources_of m.session))
 
   -- however it is said that the book crosses
   module _ {crossing : Type 0} (says : (crosses m.book ≡ true) ↔ crossing) where
     open_reads : Reads (open_cases m lent) (open_rules m lent crossing)
-    open_reads = (refl, not_says _, (refl, Iff·rfl, (refl, less_says _ _, (refl, and_says says no_price_says, tt))))
+    open_reads = (refl, not_says _, (refl, (refl, less_says _ _, (refl, and_says says no_price_says, tt))))
 
     open_in_order : GivenInOrder (open_rules m lent crossing) (λ n. open_printed m lent was ≡ open_refused_by n) ((open_printed m lent was).code ≡ 0)
     unfolding way_refusal
@@ -308,7 +309,7 @@ refused_in_order = record {
   away = away_in_order;
   submit = submit_in_order;
   turn = turn_in_order;
-  open_call = λ m lent was. open_in_order m lent was Iff·rfl;
+  open_call = λ m lent was. open_in_order m lent was Iff.rfl;
   open_sound = λ m lent was sound set. open_in_order m lent was (book_crosses m.book m.session.next (sound set).ready.book);
   crossing = λ m sound set. (let ready = (sound set).ready in book_crosses m.book m.session.next ready.book);
 }

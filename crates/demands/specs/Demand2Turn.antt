@@ -1,8 +1,8 @@
 -- Demand 2's turns: turn-downs and dispositions, each exactly in its case.
+use mathlib.Core.Logic.Iff
 use Rattle.std.specs.Prelude.{◌≡◌, ◌↔◌, true, false, List, ℕ, ◌+◌, ◌-◌, ◌<◌, eqb, take}
 use Rattle.std.proofs.Math.Path.{refl}
 use Rattle.std.proofs.Common.{sym, ap, ◌∙◌, arith}
-use Rattle.std.proofs.Math.Logic.{Iff·trans}
 use Rattle.units.specs.Units.{contracts}
 use Rattle.units.specs.Tests.{pick, holds_not_fails}
 use Rattle.units.specs.CountLaws.{one_count}
@@ -230,9 +230,9 @@ turned_down_in_order = record {
   moves = λ m lent t was k. (served_leaves m lent was t (served_as m lent t k)).lanes;
   order = λ m lent t was k new. down_in_order m was t (new_comes m lent was t k new);
   row_room = row_room_is;
-  cancel_given_out = λ m lent t was k c. Iff·trans (cancel_down m was t (cancel_comes m lent was t k c) 18 (omega arith)) (says m was t).given_out;
-  cancel_never_given = λ m lent t was k c. Iff·trans (cancel_down m was t (cancel_comes m lent was t k c) 22 (omega arith)) (says m was t).never_given;
-  cancel_accepted = λ m lent t was k c. Iff·trans (cancel_accepts m was t (cancel_comes m lent was t k c)) (says m was t).rests;
+  cancel_given_out = λ m lent t was k c. Iff.trans (cancel_down m was t (cancel_comes m lent was t k c) 18 (omega arith)) (says m was t).given_out;
+  cancel_never_given = λ m lent t was k c. Iff.trans (cancel_down m was t (cancel_comes m lent was t k c) 22 (omega arith)) (says m was t).never_given;
+  cancel_accepted = λ m lent t was k c. Iff.trans (cancel_accepts m was t (cancel_comes m lent was t k c)) (says m was t).rests;
   disposed = λ m lent was t number filled disposition opened is. disposed_in_order m lent was t number filled disposition is opened;
   simply_rests = λ m lent was t number filled disposition shut is. rested_simply m lent was t number filled disposition is shut;
 }

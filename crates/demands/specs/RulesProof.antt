@@ -1,8 +1,8 @@
 -- The tests of the rules read as the rules in words; and what they speak of is as the words say.
+use mathlib.Core.Logic.Iff
 use Rattle.std.specs.Prelude.{◌≡◌, ◌↔◌, true, ℕ, max}
 use Rattle.std.proofs.Math.Path.{refl}
 use Rattle.std.proofs.Common.{inl, inr, ⊎_elim, arith}
-use Rattle.std.proofs.Math.Logic.{Iff·trans}
 use Rattle.units.specs.Units.{contracts}
 use Rattle.units.specs.Tests.{order, less, equal, more}
 use Rattle.units.specs.Says.{same_says, or_says}
@@ -33,7 +33,7 @@ use Rattle.demands.specs.Rules.{IsNBB, IsNBO, TwentyFourRest, judged, turn_down_
 module _ (m : Market) (t : ℕ) where
   -- the tenant's rows are as many as the test of 17 counts
   room_says : (no_room (judged m t) (standing_of m t) ≡ true) ↔ (((judged m t).kind ≡ 1) × ((judged m t).life ≡ 1) × TwentyFourRest m t)
-  room_says = Iff·trans (no_room_says (judged m t) (quotes_in m) m.session.terms (standing_of m t)) (
+  room_says = Iff.trans (no_room_says (judged m t) (quotes_in m) m.session.terms (standing_of m t)) (
     λ (k, day, many). (k, day, (resting_of m.book t, resting_counted m.book t, many)),
     λ (k, day, (n, counted, many)). (k, day, omega (arith, one_count (OwnRow m.book t) (resting_counted m.book t) counted)),
   )

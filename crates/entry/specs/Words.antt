@@ -1,6 +1,6 @@
 -- The form of an entry, in the words of document 01.
+use mathlib.Core.Logic.Iff
 use Rattle.std.specs.Prelude.{◌≡◌, ◌↔◌, ◌⊎◌, true, ℕ, ◌≤◌}
-use Rattle.std.proofs.Math.Logic.{Iff·trans}
 use Rattle.units.specs.Says.{same_says, most_says, and_says, or_says, denied_says}
 use Rattle.rows.specs.Rows.{highest, largest}
 use Rattle.entry.specs.declared.Entry.{Entry}
@@ -45,7 +45,7 @@ module _ (e : Entry) where
 
   new_says : (new_order e ≡ true) ↔ IsNewOrder e
   unfolding new_order
-  new_says = Iff·trans
+  new_says = Iff.trans
       (and_says (and_says priced_says (and_says (two_says e.side) (two_says e.life))) (and_says (range_says largest e.size.0) (same_says e.number 0))) (
         λ h. record { kind = h.0.0; side = h.0.1.0; life = h.0.1.1; size = h.1.0; number = h.1.1 },
         λ n. ((n.kind, (n.side, n.life)), (n.size, n.number)),
@@ -53,7 +53,7 @@ module _ (e : Entry) where
 
   cancel_says : (cancelling e ≡ true) ↔ IsCancel e
   unfolding cancelling
-  cancel_says = Iff·trans
+  cancel_says = Iff.trans
       (and_says (and_says (same_says e.kind 3) (most_says 1 e.number))
       (and_says (and_says (same_says e.side 0) (same_says e.life 0)) (and_says (same_says e.price.0 0) (same_says e.size.0 0)))) (
         λ h. record { kind = h.0.0; number = h.0.1; side = h.1.0.0; life = h.1.0.1; price = h.1.1.0; size = h.1.1.1 },

@@ -1,4 +1,6 @@
 // An entry and what it meets: its form, the settings and their ranges, the away quote, NBB and NBO.
+#![tactic(auto)]
+
 use units::grid::Grid;
 use units::{Cents, Contracts};
 
@@ -28,7 +30,7 @@ pub const DAY: u32 = 1;
 pub const NOW: u32 = 2;
 
 // The settings as given. The option's type is 1 call or 2 put; print and close are 0 where there is none.
-#[derive(Drop)]
+#[derive(Clone, Copy)]
 pub struct Settings {
     pub allocation: u32,
     pub grid: u32,
@@ -44,7 +46,7 @@ pub struct Settings {
 }
 
 // The settings as accepted: the grid in place of its number, and whether the option is a put.
-#[derive(Drop)]
+#[derive(Clone, Copy)]
 pub struct Terms {
     pub allocation: u32,
     pub grid: Grid,
@@ -60,7 +62,7 @@ pub struct Terms {
 }
 
 // An entry as given. Kind 1 limit, 2 market, 3 cancel; side 1 buy, 2 sell; life 1 day, 2 now.
-#[derive(Drop)]
+#[derive(Clone, Copy)]
 pub struct Entry {
     pub kind: u32,
     pub side: u32,
@@ -71,14 +73,14 @@ pub struct Entry {
 }
 
 // The away quote; 0 is absent.
-#[derive(Drop)]
+#[derive(Clone, Copy)]
 pub struct Away {
     pub bid: Cents,
     pub offer: Cents,
 }
 
 // The best quotes, book and away together, and the away quote by itself; all before the order trades.
-#[derive(Drop)]
+#[derive(Clone, Copy)]
 pub struct Quotes {
     pub nbb: Cents,
     pub nbo: Cents,

@@ -1,5 +1,7 @@
 // A tape in figures: a text of one event a line, its numbers in decimal with one space between, is read byte by byte,
 // and the bytes of its tape are written.
+#![tactic(auto)]
+
 mod reading;
 
 ghost use Rattle.std.specs.Prelude.{◌≡◌, ◌-◌, length};
@@ -13,7 +15,7 @@ use units::words::{either, first};
 
 // Where a text is read: the line, from 1; how many of its numbers have ended; whether a number has begun, and its value
 // so far.
-#[derive(Drop)]
+#[derive(Clone, Copy)]
 pub struct Place {
     pub line: u64,
     pub count: usize,
@@ -37,7 +39,7 @@ impl Place {
 
 // What comes next: more of the text is read, what is written is written out, or nothing, since the text ended between
 // two lines (0), or its line at the place is refused by a number.
-#[derive(Drop)]
+#[derive(Clone, Copy)]
 pub enum Next {
     Read,
     Write,
@@ -46,7 +48,7 @@ pub enum Next {
 
 // What inscribing leaves: the place in the text, the place of the next byte at hand, the place after what is written,
 // and what comes next.
-#[derive(Drop)]
+#[derive(Clone, Copy)]
 pub struct Inscribed {
     pub place: Place,
     pub from: usize,

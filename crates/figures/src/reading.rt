@@ -20,14 +20,14 @@ const SPACE: u8 = 32;
 const NEWLINE: u8 = 10;
 
 // The place after a byte, and 0, or the number by which the byte's line is refused.
-#[derive(Drop)]
+#[derive(Clone, Copy)]
 struct Moved {
     place: Place,
     code: u32,
 }
 
 // The same with the place after what is written.
-#[derive(Drop)]
+#[derive(Clone, Copy)]
 pub(crate) struct Taken {
     pub place: Place,
     pub at: usize,

@@ -1,4 +1,6 @@
 // The calls turn and open with their fill records lent as a row of structs.
+#![tactic(auto)]
+
 pub mod on_row;
 
 ghost use Rattle.std.specs.Prelude.{◌≡◌, List, ℕ, ◌*◌, ◌<◌};

@@ -15,14 +15,14 @@ use session::{Opened, Session, Turned};
 use units::{Cents, Contracts};
 
 // What a turn answered, and the row of fills that it left.
-#[derive(Drop)]
+#[derive(Clone, Copy)]
 pub struct TurnedRow {
     pub turned: Turned,
     pub row: [Fill; 216],
 }
 
 // What an opening answered, and the row of fills that it left.
-#[derive(Drop)]
+#[derive(Clone, Copy)]
 pub struct OpenedRow {
     pub opened: Opened,
     pub row: [Fill; 216],

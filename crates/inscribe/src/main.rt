@@ -4,6 +4,8 @@
 // 64 KiB and written through an output of the same size, so a text of any length takes the same memory. A line that is
 // refused is told on standard error, `write C L`, and the events before it are written. How it ended is told by one byte:
 // `0` the text ended, `1` a line was refused, `2` a file could not be opened, read or written.
+#![tactic(auto)]
+
 use figures::{Next, Place, inscribe};
 use tape::MOST_NUMBERS;
 use window::program::{

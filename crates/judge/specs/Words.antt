@@ -1,6 +1,6 @@
 -- The dispositions and the bound in the words of the paper: what each test says, and which prices are within the bound.
+use mathlib.Core.Logic.Iff
 use Rattle.std.specs.Prelude.{◌≡◌, ◌↔◌, ◌⊎◌, true, ℕ, ◌+◌, ◌-◌, ◌≤◌, ◌<◌}
-use Rattle.std.proofs.Math.Logic.{Iff·trans}
 use Rattle.std.proofs.Common.{arith, eq-eqb, eqb-true, lt-ltb, ltb-true}
 use Rattle.units.specs.Tests.{and_true, and_holds}
 use Rattle.units.specs.Says.{same_says, less_says, most_says, and_says, or_says}
@@ -33,9 +33,9 @@ module _ (j : Entry) (q : Quotes) (t : Terms) where
       ⊎ ((j.side ≡ 2) × (0 < q.nbb.0) × (j.price.0 + t.drill.0 < q.nbb.0)))
   unfolding beyond_drill
   beyond_drill_says = or_says
-      (Iff·trans (and_says (and_says (same_says _ _) (less_says _ _)) (less_says _ _))
+      (Iff.trans (and_says (and_says (same_says _ _) (less_says _ _)) (less_says _ _))
       (λ ((side, offer), far). (side, offer, far), λ (side, offer, far). ((side, offer), far)))
-      (Iff·trans (and_says (and_says (same_says _ _) (less_says _ _)) (less_says j.price.0 (q.nbb.0 - t.drill.0)))
+      (Iff.trans (and_says (and_says (same_says _ _) (less_says _ _)) (less_says j.price.0 (q.nbb.0 - t.drill.0)))
       (λ ((side, bid), far). (side, bid, omega arith), λ (side, bid, far). ((side, bid), omega arith)))
 
   pub at_away_says : (at_away j q ≡ true) ↔
@@ -43,9 +43,9 @@ module _ (j : Entry) (q : Quotes) (t : Terms) where
       ⊎ ((j.side ≡ 2) × (0 < q.away.bid.0) × (j.price.0 ≤ q.away.bid.0)))
   unfolding at_away
   at_away_says = or_says
-      (Iff·trans (and_says (and_says (same_says _ _) (less_says _ _)) (most_says _ _))
+      (Iff.trans (and_says (and_says (same_says _ _) (less_says _ _)) (most_says _ _))
       (λ ((side, offer), at). (side, offer, at), λ (side, offer, at). ((side, offer), at)))
-      (Iff·trans (and_says (and_says (same_says _ _) (less_says _ _)) (most_says _ _))
+      (Iff.trans (and_says (and_says (same_says _ _) (less_says _ _)) (most_says _ _))
       (λ ((side, bid), at). (side, bid, at), λ (side, bid, at). ((side, bid), at)))
 
   module _ (price : ℕ) where

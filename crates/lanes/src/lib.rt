@@ -1,5 +1,7 @@
 // Nine lanes of 64 entries, one for each tenant, and the rotation among them. A lane is a ring: its entries stay where
 // they were put, and its head moves.
+#![tactic(auto)]
+
 use entry::ENTRY_NUMBERS;
 use units::TENANTS;
 
@@ -20,7 +22,7 @@ pub const ALL_ENTRIES: usize = TENANTS * DEPTH * ENTRY_NUMBERS;
 pub type Entries = [u32; ALL_ENTRIES];
 
 // Where each lane's oldest entry stands in its ring, how many wait in it, and the rotation's place.
-#[derive(Drop)]
+#[derive(Clone, Copy)]
 pub struct Lanes {
     pub heads: [u32; TENANTS],
     pub lens: [u32; TENANTS],
@@ -28,7 +30,7 @@ pub struct Lanes {
 }
 
 // The lane that the next turn serves.
-#[derive(Drop)]
+#[derive(Clone, Copy)]
 pub enum Served {
     Lane(usize),
     Nobody,

@@ -1,4 +1,6 @@
 // The lines that the program prints, byte for byte, and which orders an opening cancelled.
+#![tactic(auto)]
+
 pub mod gone;
 pub mod line;
 mod parts;

@@ -1,5 +1,7 @@
 // The tape's numbers, read and written: one to five bytes, seven bits each, low group first, the top bit set on all but
 // the last.
+#![tactic(auto)]
+
 pub mod writing;
 
 ghost use Rattle.std.specs.Prelude.{◌≡◌, drop};
@@ -7,7 +9,7 @@ ghost use Rattle.numeral.specs.Number.{number_in, number_at, refusal_of};
 
 // A number with the place after its last byte, or the number of its refusal: 30 cut short, 31 more than one byte and
 // the last is 0, 32 above 4,294,967,295 or a fifth byte with its top bit set.
-#[derive(Drop)]
+#[derive(Clone, Copy)]
 pub enum Number {
     Read(u32, usize),
     Refused(u32),

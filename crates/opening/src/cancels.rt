@@ -11,7 +11,7 @@ use units::{Cents, Contracts};
 
 // Which rows are cancelled: buys from the lowest sell up, if buys remain that might have traded; sells from the highest
 // buy down, if such sells do.
-#[derive(Drop)]
+#[derive(Clone, Copy)]
 pub struct Cut {
     pub buys: bool,
     pub lowest: Cents,

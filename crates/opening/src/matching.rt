@@ -22,7 +22,7 @@ use rows::{BUY, Column, ROWS, SELL};
 use units::{Cents, Contracts, Total};
 
 // Contracts matched, and how many records were written.
-#[derive(Drop)]
+#[derive(Clone, Copy)]
 pub struct Matched {
     pub volume: Contracts,
     pub fills: usize,

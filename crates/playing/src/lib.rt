@@ -1,4 +1,6 @@
 // A tape played through a window: what the program does between two system calls.
+#![tactic(auto)]
+
 ghost use Rattle.std.specs.Prelude.{◌≡◌};
 ghost use Rattle.session.specs.Market.{market_lent, market_found, market_left};
 ghost use Rattle.playing.specs.Playing.{leaving, play_of, CanPlay, PlaysTo};
@@ -14,7 +16,7 @@ use window::is_short;
 
 // What comes next: more of the tape is read, what is printed is written out, or nothing, since the tape ended or was
 // refused, with the byte that tells which.
-#[derive(Drop)]
+#[derive(Clone, Copy)]
 pub enum Next {
     Read,
     Write,
@@ -22,7 +24,7 @@ pub enum Next {
 }
 
 // What playing leaves: the session, the place after what was printed, the place of the next event, and what comes next.
-#[derive(Drop)]
+#[derive(Clone, Copy)]
 pub struct Played {
     pub session: Session,
     pub at: usize,

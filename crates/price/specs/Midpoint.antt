@@ -1,8 +1,8 @@
 -- The midpoint in the words of the paper, that the definition says just that, where it is as it was before the grid was
 -- asked, and where there is none.
+use mathlib.Core.Logic.Iff
 use Rattle.std.specs.Prelude.{◌≡◌, refl, ◌↔◌, Bool, true, false, cond, ◌&&◌, ℕ, ◌+◌, ◌*◌, ◌/◌, ◌≤◌, ◌<◌, ltb, eqb}
 use Rattle.std.proofs.Common.{◌∙◌, arith, lt-ltb, ltb-true, ltb-false, eqb-true}
-use Rattle.std.proofs.Math.Logic.{Iff·trans}
 use Rattle.std.proofs.Math.Nat.{one-dvd}
 use Rattle.std.proofs.Math.Decide.{dec_lt}
 use Rattle.std.proofs.lemmas.Bool.{eqb-false}
@@ -81,7 +81,7 @@ pub no_midpoint : (number : ℕ) (g : Grid) (nbb nbo : ℕ) → grid_of number �
     → ((price : ℕ) → Midpoint g nbb nbo price → ⊥) ↔ ((number ≡ 3) × (nbb + nbo < 2 * 5))
 no_midpoint number g nbb nbo is bid offer =
     let (least, most) = lowest_bounds number g is in
-    Iff·trans (none_below g nbb nbo least (omega arith) bid offer) (go (eqb number 3) refl (lowest_is number g is))
+    Iff.trans (none_below g nbb nbo least (omega arith) bid offer) (go (eqb number 3) refl (lowest_is number g is))
   where
     go : (three : Bool) → eqb number 3 ≡ three → (lowest_of g).0 ≡ cond three 5 1
         → (nbb + nbo < 2 * (lowest_of g).0) ↔ ((number ≡ 3) × (nbb + nbo < 2 * 5))

@@ -5,7 +5,7 @@ ghost use Rattle.price.specs.Amounts.{minimum_amount};
 use units::{Cents, MOST_32};
 
 // An amount that holds up to a ceiling of the NBB.
-#[derive(Drop)]
+#[derive(Clone, Copy)]
 struct Row {
     ceiling: Cents,
     amount: Cents,

@@ -1,5 +1,7 @@
 // The opening price: the midpoint of the away quote, on the grid, the last print or the previous close, the first of
 // them that is valid.
+#![tactic(auto)]
+
 mod amounts;
 
 ghost use Rattle.std.specs.Prelude.{◌≡◌, ◌&&◌, leb};
@@ -10,7 +12,7 @@ use units::Cents;
 use units::grid::Grid;
 
 // Where an opening price may come from, each 0 where absent, and the grid that the midpoint is a price of.
-#[derive(Drop)]
+#[derive(Clone, Copy)]
 pub struct Sources {
     pub grid: Grid,
     pub bid: Cents,
@@ -19,7 +21,7 @@ pub struct Sources {
     pub close: Cents,
 }
 
-#[derive(Drop)]
+#[derive(Clone, Copy)]
 pub enum Choice {
     At(Cents),
     NoneValid,

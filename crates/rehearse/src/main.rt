@@ -4,6 +4,8 @@
 // for the tallies, which are printed after every other line. The tape is read through a window of 64 KiB and printed
 // through an output of the same size, so a tape of any length takes the same memory. How the replay ended is told by one
 // byte: `0` the tape ended, `1` it was refused, `2` a file could not be opened, read or written.
+#![tactic(auto)]
+
 ghost use Rattle.std.specs.Prelude.{◌≡◌, length};
 ghost use Rattle.lines.specs.Laying.{output};
 

@@ -1,7 +1,7 @@
 // The five events, each run on the market and printed.
 ghost use Rattle.std.specs.Prelude.{◌≡◌, List, ℕ, ◌*◌, min};
 ghost use Rattle.book.specs.Book.{Book};
-ghost use Rattle.book.specs.Lent.{given as givenBook, before, after};
+ghost use Rattle.book.specs.Lent.{given as given_book, before, after};
 ghost use Rattle.lines.specs.Laying.{Room};
 ghost use Rattle.entry.specs.Numbers.{entry_numbers};
 ghost use Rattle.session.specs.Market.{market_of, market_lent, market_found, market_left};
@@ -134,7 +134,7 @@ fn open_event(
     out: &mut Output,
     at: usize,
 ) -> Stepped
-    requires book_sound { BookSound s (givenBook sides prices sizes owners numbers) }
+    requires book_sound { BookSound s (given_book sides prices sizes owners numbers) }
     requires room { Room out.old at longest_event }
     ensures { (entries : List ℕ) → CanReplay (market_of s (before sides prices sizes owners numbers) entries) out.old at
         → Replayed (open_printed (market_of s (before sides prices sizes owners numbers) entries))

@@ -1,4 +1,6 @@
 // One event of a tape, run on the market and printed; and the tallies printed.
+#![tactic(auto)]
+
 pub mod events;
 mod listing;
 pub mod stepping;
@@ -9,7 +11,7 @@ use rows::ROWS;
 use session::Session;
 
 // What an event leaves: the session, and the place after what was printed.
-#[derive(Drop)]
+#[derive(Clone, Copy)]
 pub struct Stepped {
     pub session: Session,
     pub at: usize,

@@ -22,7 +22,7 @@ pub const REFUSED: u8 = b'1';
 
 // What a step leaves: the session, the place after what was printed, the place of the next event, and whether the tape
 // goes on.
-#[derive(Drop)]
+#[derive(Clone, Copy)]
 pub struct Reached {
     pub session: Session,
     pub at: usize,

@@ -4,6 +4,8 @@
 // The tape comes from the file that the first argument names, or from standard input, through a window of 64 KiB, and
 // goes to standard output through one of the same size. How it ended is told by one byte: `0` the tape ended, `1` it was
 // refused, `2` a file could not be opened, read or written.
+#![tactic(auto)]
+
 ghost use Rattle.std.specs.Prelude.{◌≤◌, length};
 ghost use Rattle.rewrite.specs.Rewriting.{StepsTo};
 
@@ -15,7 +17,7 @@ use writer::rewriting::{Rewritten, rewrite};
 
 // What one event leaves: the place after it among the bytes at hand, the bytes that stand in the output, and how the
 // program goes on.
-#[derive(Drop)]
+#[derive(Clone, Copy)]
 struct Stepped {
     from: usize,
     at: usize,

@@ -1,4 +1,6 @@
 // The columns of the book: row i is what stands at place i of each, and a row of size 0 is free.
+#![tactic(auto)]
+
 pub mod passes;
 pub mod row;
 

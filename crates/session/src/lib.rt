@@ -1,5 +1,7 @@
 // The session: settings, away quote, book, lanes, rotation and tallies of one option series, the five calls on it, and
 // the reading of its tallies.
+#![tactic(auto)]
+
 pub mod away;
 pub mod open;
 pub mod reading;
@@ -23,7 +25,7 @@ use units::{Cents, Contracts};
 
 // All of a session that is small; the columns of the book and the lanes' entries are lent beside it. Nobody makes one
 // but `Session::new` and the calls.
-#[derive(Drop)]
+#[derive(Clone, Copy)]
 pub struct Session {
     accepted: bool,
     terms: Terms,
@@ -81,7 +83,7 @@ impl Session {
 }
 
 // What settings, away and submit answer: 0, or the number of the refusal.
-#[derive(Drop)]
+#[derive(Clone, Copy)]
 pub struct Answered {
     pub session: Session,
     pub code: u32,
@@ -90,7 +92,7 @@ pub struct Answered {
 // What a turn answers: refused by a number; or a taken turn of a tenant, whose entry is turned down by a number, or
 // cancels an order, or is accepted as an order, with the contracts filled, its disposition, and how many fill records
 // it wrote.
-#[derive(Drop)]
+#[derive(Clone, Copy)]
 pub enum TurnAnswer {
     Refused(u32),
     TurnedDown(usize, u32),
@@ -98,7 +100,7 @@ pub enum TurnAnswer {
     Accepted(usize, u32, Contracts, u32, usize),
 }
 
-#[derive(Drop)]
+#[derive(Clone, Copy)]
 pub struct Turned {
     pub session: Session,
     pub answer: TurnAnswer,
@@ -106,20 +108,20 @@ pub struct Turned {
 
 // What an opening answers: refused by a number; or the price and the volume, both 0 where no resting buy was at or
 // above a resting sell, and how many fill records it wrote.
-#[derive(Drop)]
+#[derive(Clone, Copy)]
 pub enum OpenAnswer {
     Refused(u32),
     AtPrice(Cents, Contracts, usize),
 }
 
-#[derive(Drop)]
+#[derive(Clone, Copy)]
 pub struct Opened {
     pub session: Session,
     pub answer: OpenAnswer,
 }
 
 // What the reading of a tally answers: refused by a number; or the tally of the tenant.
-#[derive(Drop)]
+#[derive(Clone, Copy)]
 pub enum Tallied {
     Refused(u32),
     Of(Tally),

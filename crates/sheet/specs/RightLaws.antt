@@ -1,8 +1,8 @@
 -- The tests of a field say what is right in words, and the first wrong field is the first of which that does not hold.
+use mathlib.Core.Logic.Iff
 use Rattle.std.specs.Prelude.{◌≡◌, refl, ◌↔◌, ◌⊎◌, Bool, true, false, List, [], ◌∷◌, ℕ, zero, suc, ◌≤◌, ◌<◌, eqb, ltb, length, take}
 use Rattle.std.proofs.Common.{sym, ◌∙◌, inl, inr, ⊎_elim, arith, ltb-true, ltb-false, eqb-true, eq-eqb, ne_eqb}
 use Rattle.std.proofs.Math.Path.{ap}
-use Rattle.std.proofs.Math.Logic.{Iff·trans}
 use Rattle.units.specs.Tests.{◌and◌, is_not, pick, pick_yes, pick_no, picked_of_both, and_true, and_holds, not_false, holds_not_fails}
 use Rattle.units.specs.Says.{same_says, and_says, or_says}
 use Rattle.units.specs.Cases.{Case, first_of}
@@ -52,13 +52,13 @@ digits_say (b ∷ s) =
 
 -- a number of one to k digits
 number_says : (k : ℕ) (f : List ℕ) → ((from1to k (length f) and all_digits f) ≡ true) ↔ Number k f
-number_says k f = Iff·trans
+number_says k f = Iff.trans
     (and_says (range_says k (length f)) (digits_say f))
     (λ ((some, most), digits). record { digits = digits; some = some; most = most }, λ n. ((n.some, n.most), n.digits))
 
 pub tenant_says : (f : List ℕ) → (is_tenant f ≡ true) ↔ Number 1 f
 unfolding is_tenant
-tenant_says f = Iff·trans
+tenant_says f = Iff.trans
     (and_says (same_says (length f) 1) (digits_say f))
     (λ (one, digits). record { digits = digits; some = omega arith; most = omega arith }, λ n. (omega (arith, n.some, n.most), n.digits))
 
@@ -86,7 +86,7 @@ digits_without m s (inr high) d i h e = omega (arith, (d i h).1)
 
 pub dollars_say : (f : List ℕ) → (is_dollars f ≡ true) ↔ Price f
 unfolding is_dollars
-dollars_say f = Iff·trans
+dollars_say f = Iff.trans
     (and_says (number_says 5 (up_to point f)) (and_says (same_says (length (behind point f)) 2) (digits_say (behind point f)))) (
       λ (whole, (two, part)).
           record {
@@ -169,11 +169,11 @@ module _ (line : List ℕ) (fs : List (List ℕ)) (cut : FieldsOf line fs) where
 
   -- the tests before a field say that those are right
   before_say : (i : ℕ) → i ≤ 6 → (none (take i (wrong_fields line)) ≡ true) ↔ ((j : ℕ) → j < i → RightField fs j)
-  before_say i h = Iff·trans (none_before (wrong_fields line) i)
+  before_say i h = Iff.trans (none_before (wrong_fields line) i)
       (λ f j l. (field_says j (omega arith)).0 (f j l), λ f j l. (field_says j (omega arith)).1 (f j l))
 
   pub all_right_says : (wrong_field line ≡ 0) ↔ ((i : ℕ) → i < 6 → RightField fs i)
-  all_right_says = Iff·trans (wrong_by line).otherwise (before_say 6 (omega arith))
+  all_right_says = Iff.trans (wrong_by line).otherwise (before_say 6 (omega arith))
 
   pub first_wrong_says : (i : ℕ) → i < 6 → (wrong_field line ≡ suc i) ↔ FirstWrong fs i
   first_wrong_says i h =

@@ -1,6 +1,8 @@
 // An order sheet, as a desk keeps it: text lines, one order each. A sheet is read in parts of any length, and what it
 // says does not depend on how it is cut. This crate knows no market: it gives orders, each as the submit of one entry
 // that it means.
+#![tactic(auto)]
+
 ghost use Rattle.std.specs.Prelude.{◌≡◌, ◌+◌, ◌≤◌, ◌<◌, length, take, drop};
 ghost use Rattle.sheet.specs.Line.{line_of};
 ghost use Rattle.sheet.specs.Reading.{lines, line_start, line_step, begun_of, step_of, held_after, finish_of, CanStep};
@@ -29,7 +31,7 @@ pub const UNENDED: u32 = 45;
 const NEWLINE: u8 = 10;
 
 // An order: its tenant, and the entry that its submit sends.
-#[derive(Drop)]
+#[derive(Clone, Copy)]
 pub struct Order {
     pub tenant: u32,
     pub entry: Entry,
@@ -37,7 +39,7 @@ pub struct Order {
 
 // Where a sheet is read: the line, from 1, and how many of its bytes have come. These stand in front of the memory that
 // is lent from step to step.
-#[derive(Drop)]
+#[derive(Clone, Copy)]
 pub struct Place {
     pub line: u64,
     pub held: usize,
@@ -54,7 +56,7 @@ impl Place {
 
 // What a step gives: the place where the next part goes on, all bytes of this one being used; or an order, with the
 // place of the next byte in the part and that in the sheet; or the number by which the sheet is refused, with its line.
-#[derive(Drop)]
+#[derive(Clone, Copy)]
 pub enum Stepped {
     More(Place),
     Order(Order, usize, Place),
@@ -62,7 +64,7 @@ pub enum Stepped {
 }
 
 // How a sheet finishes: behind its last line, or refused by a number at a line.
-#[derive(Drop)]
+#[derive(Clone, Copy)]
 pub enum Finished {
     Ended,
     Refused(u32, u64),

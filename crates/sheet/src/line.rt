@@ -38,7 +38,7 @@ const BUY: u32 = 1;
 const SELL: u32 = 2;
 
 // What a line says: an order, or the number by which it is refused.
-#[derive(Drop)]
+#[derive(Clone, Copy)]
 pub(crate) enum LineRead {
     Right(Order),
     Wrong(u32),

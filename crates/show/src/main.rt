@@ -1,5 +1,7 @@
 // The worked example of the paper, call by call, each turn and the open with a row of fills of its own; the fills of
 // both turns are printed.
+#![tactic(auto)]
+
 use book::Fill;
 use entry::Settings;
 use fills::on_row::{TurnedRow, open_on_row, turn_on_row};

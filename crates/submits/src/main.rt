@@ -4,6 +4,8 @@
 // 64 KiB and written through an output of the same size, so a sheet of any length takes the same memory. A refused
 // sheet is told on standard error, `sheet C L`, and the submits before that line are written. How it ended is told by
 // one byte: `0` the sheet ended, `1` it was refused, `2` a file could not be opened, read or written.
+#![tactic(auto)]
+
 ghost use Rattle.std.specs.Prelude.{◌≡◌, ◌+◌, ◌≤◌, length};
 ghost use Rattle.tape.specs.Leads.{encode_all};
 ghost use Rattle.tape.specs.Depth.{most_bytes};
@@ -23,7 +25,7 @@ use writer::{Written, write};
 
 // How far sending has come: the place in the sheet, that of the next byte at hand, the place after what is written, and
 // 0, or the number by which the sheet is refused there.
-#[derive(Drop)]
+#[derive(Clone, Copy)]
 struct Sent {
     place: Place,
     from: usize,

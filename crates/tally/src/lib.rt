@@ -1,11 +1,13 @@
 // The tallies of the nine tenants: turns taken, contracts bought, contracts sold, each added to where it stands.
+#![tactic(auto)]
+
 ghost use Rattle.std.specs.Prelude.{◌≡◌};
 ghost use Rattle.tally.specs.Tallies.{plus, fits, no_tallies, Countable, counted, turns_in_all, Fitting};
 
 use units::TENANTS;
 
 // What a tenant has done since the last accepted settings.
-#[derive(Drop)]
+#[derive(Clone, Copy)]
 pub struct Tally {
     pub turns: u64,
     pub bought: u64,

@@ -1,5 +1,7 @@
 // The tape's events, one out of the bytes at a place: what happens, with its numbers and the place after it, or why it
 // cannot be read.
+#![tactic(auto)]
+
 use entry::{Away, BULK_NUMBERS, Settings};
 use numeral::GROUPS;
 
@@ -16,7 +18,7 @@ pub const MOST_NUMBERS: usize = 3 + BULK_NUMBERS;
 pub const MOST_BYTES: usize = GROUPS as usize * MOST_NUMBERS;
 
 // What a tape says: the five calls, each with its numbers. The numbers of a bulk's entries go into lent memory.
-#[derive(Drop)]
+#[derive(Clone, Copy)]
 pub enum Event {
     Settings(Settings),
     Away(Away),
@@ -27,7 +29,7 @@ pub enum Event {
 
 // An event with the place after its last number, or a refusal with the place of the bad number, or the tape's end
 // between two events.
-#[derive(Drop)]
+#[derive(Clone, Copy)]
 pub enum Reading {
     Read(Event, usize),
     Refused(u32, usize),

@@ -6,7 +6,7 @@ ghost use Rattle.tape.specs.Several.{several_at, values_at};
 use numeral::Number;
 
 // The place after the last of them, or the refusal of the first that is refused, with its place.
-#[derive(Drop)]
+#[derive(Clone, Copy)]
 pub enum Several {
     Read(usize),
     Refused(u32, usize),

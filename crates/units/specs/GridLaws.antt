@@ -1,10 +1,10 @@
 -- A price is on a grid exactly where its step divides it; the highest at or below a price and the lowest from one on;
 -- the lowest step is a price; E4 of the paper, and the turn.
+use mathlib.Core.Logic.Iff
 use Rattle.std.specs.Prelude.{◌≡◌, Bool, cond, ◌↔◌, ltb, eqb}
 use Rattle.std.proofs.Math.Path.{refl}
 use Rattle.std.proofs.Common.{subst, eqb-true, eq-eqb, ltb-true, ltb-false}
 use Rattle.std.proofs.Math.Bool.{true, false}
-use Rattle.std.proofs.Math.Logic.{Iff·trans}
 use Prim.Native.Nat.{ℕ, zero, suc, ◌+◌, ◌-◌, ◌≤◌, ◌<◌, ◌∣◌}
 use Rattle.std.proofs.Math.Nat.{mod-eq-zero_of_dvd, dvd_of_mod-eq-zero, dvd-zero, dvd_refl, le_of_dvd}
 use Rattle.std.proofs.Math.Decide.{dec_lt}
@@ -37,7 +37,7 @@ step_divides g p = go (ltb p.0 300) refl
         (λ d. record { below_300 = λ low. absurd (omega arith); from_300 = λ _. d }, λ s. s.from_300 high)
 
 pub on_says : (g : Grid) (p : Cents) → (on_grid g p ≡ true) ↔ StepDivides g p.0
-on_says g p = Iff·trans (on_divides g p) (step_divides g p)
+on_says g p = Iff.trans (on_divides g p) (step_divides g p)
 
 -- ---- the highest price at or below
 

@@ -6,14 +6,14 @@ ghost use Rattle.units.specs.Grid.{stepping, grid_of, lowest_of, step_of, on_gri
 use crate::Cents;
 
 // A grid is its two steps, so one proof over the steps serves all three.
-#[derive(Drop)]
+#[derive(Clone, Copy)]
 pub struct Grid {
     pub low: Cents,
     pub high: Cents,
 }
 
 // The grid of a number, or none: only 1, 2 and 3 are grids.
-#[derive(Drop)]
+#[derive(Clone, Copy)]
 pub enum Chosen {
     One(Grid),
     NoSuch,

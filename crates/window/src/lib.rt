@@ -3,6 +3,8 @@
 //
 // A signal may interrupt a read or a write before it moves a byte, which is no failure. A read that is interrupted
 // gives nothing and says that the file may go on, so a loop over the file reads again; a write is tried again.
+#![tactic(auto)]
+
 pub mod program;
 mod refusal;
 pub mod writing;
@@ -13,7 +15,7 @@ ghost use Rattle.window.specs.Window.{is_short, Refilled};
 
 // What a read gave: the place after the bytes at hand, the place of the window's first byte in the file, whether the
 // file may go on, and whether the read failed.
-#[derive(Drop)]
+#[derive(Clone, Copy)]
 pub struct Filled {
     pub to: usize,
     pub base: u64,

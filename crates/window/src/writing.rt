@@ -10,7 +10,7 @@ const INTERRUPTIONS: u64 = 140737488355328;
 
 // What a write left: the place after the bytes that are taken, how many more interruptions are borne, and whether the
 // write failed.
-#[derive(Drop)]
+#[derive(Clone, Copy)]
 struct Written {
     to: usize,
     borne: u64,

@@ -1,4 +1,6 @@
 // The tape's writer: one event, given as its numbers, put into lent memory.
+#![tactic(auto)]
+
 pub mod rewriting;
 
 ghost use Rattle.std.specs.Prelude.{◌≡◌, ◌≤◌, ltb, length};
@@ -17,7 +19,7 @@ pub const NOT_ONE_EVENT: u32 = 41;
 pub const NO_ROOM: u32 = 40;
 
 // The bytes used, or the number of the refusal.
-#[derive(Drop)]
+#[derive(Clone, Copy)]
 pub enum Written {
     Used(usize),
     Refused(u32),

@@ -12,7 +12,7 @@ use tape::numbers::{entries_in, numbers_of};
 use tape::{Event, MOST_NUMBERS, Reading};
 
 // What the writer answered to the event, with the place after it on the tape; or why there is none to write.
-#[derive(Drop)]
+#[derive(Clone, Copy)]
 pub enum Rewritten {
     Event(Written, usize),
     Refused(u32, usize),
