@@ -1,0 +1,13 @@
+-- `rows::passes::order_row` meets its contract: no row passed is the order.
+use mathlib.Core.Path.{sym, ◌∙◌}
+use Rattle.rows.specs.Passes.{order_row}
+use Rattle.units.specs.Loops.{seek_finds, seek_ends}
+use Rattle.rows.proofs.passes.order_row.Goals as goal
+
+pub returns-then-is_order : goal.returns-then-is_order
+unfolding order_row
+returns-then-is_order c = seek_finds _ _ _ c.loop-i.invariant c.loop-i-test.true (sym c.is_order.ensures ∙ c.if-is_order.true)
+
+pub returns : goal.returns
+unfolding order_row
+returns c = seek_ends _ _ _ c.loop-i.invariant c.loop-i-test.false
