@@ -3,7 +3,6 @@ use borrow.Author.Tests.{lt-ltb, le-ltb, eq-eqb, ne_eqb}
 use Rattle.units.specs.Picked.{precedes}
 use Rattle.levels.proofs.row.precedes.Goals as goal
 
-
 pub returns-then-a-b : goal.returns-then-a-b
 unfolding precedes
 returns-then-a-b c = simp (lt-ltb _ _ c.if-a-b.true)
