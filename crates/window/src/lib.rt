@@ -13,6 +13,8 @@ ghost use Rattle.std.specs.Prelude.{◌≡◌, ◌+◌, ◌-◌, ◌≤◌, ◌<
 ghost use Rattle.std.proofs.Math.Seq.{paste};
 ghost use Rattle.window.specs.Window.{is_short, Refilled};
 
+use std::io::{Error, ErrorKind, Read};
+
 // What a read gave: the place after the bytes at hand, the place of the window's first byte in the file, whether the
 // file may go on, and whether the read failed.
 #[derive(Clone, Copy)]
@@ -31,9 +33,9 @@ pub fn is_short(from: usize, to: usize, more: bool, wanted: usize) -> bool
     if more { to - from < wanted } else { false }
 }
 
-// Whether the call that has just failed was interrupted by a signal.
-pub(crate) fn interrupted() -> bool {
-    os::errno() == libc::EINTR
+// Whether a call that failed was interrupted by a signal.
+pub(crate) fn interrupted(error: &Error) -> bool {
+    error.kind() == ErrorKind::Interrupted
 }
 
 // Moves the bytes that are not used yet to the front of the window.
@@ -52,7 +54,13 @@ fn to_front(window: &mut [u8], from: usize, to: usize)
 // One read of the file behind the bytes that are not used yet, which move to the front. It needs room: a read into a
 // window that is full of them gives nothing, as one at the file's end does. Where fewer are at hand than wanted there
 // is room, if no more are wanted than the window holds.
-pub fn refill(fd: i32, window: &mut [u8], from: usize, to: usize, base: u64) -> Filled
+pub fn refill<R: Read>(
+    reader: &mut R,
+    window: &mut [u8],
+    from: usize,
+    to: usize,
+    base: u64,
+) -> Filled
     requires from_le_to { from ≤ to }
     requires to_in_bounds { to ≤ length window.old }
     requires from_bound { base + from < 18446744073709551616 }
@@ -61,21 +69,22 @@ pub fn refill(fd: i32, window: &mut [u8], from: usize, to: usize, base: u64) -> 
     let left = to - from;
     let first = base + from as u64;
     to_front(window, from, to);
-    let got = libc::read(fd, &mut window[left..]);
-    let n = io::count(got, &window[left..]);
-    if got < 0 {
-        let again = interrupted();
-        return Filled {
-            to: left,
+    let got = reader.read(&mut window[left..]);
+    match got {
+        Ok(n) => Filled {
+            to: left + n,
             base: first,
-            more: again,
-            failed: !again,
-        };
-    }
-    Filled {
-        to: left + n,
-        base: first,
-        more: n > 0,
-        failed: false,
+            more: n > 0,
+            failed: false,
+        },
+        Err(error) => {
+            let again = interrupted(&error);
+            Filled {
+                to: left,
+                base: first,
+                more: again,
+                failed: !again,
+            }
+        }
     }
 }

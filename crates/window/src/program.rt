@@ -5,6 +5,10 @@ ghost use Rattle.window.specs.Program.{Stopped, status_after, status_of, word_mo
 
 use crate::refusal::{LONGEST_BEHIND, refusal_line};
 use crate::writing::write_out;
+use std::env::FillError;
+use std::fs::File;
+use std::io::{Error, Read};
+use std::rt::{Env, Stdin};
 
 // Where the status goes.
 const STATUS_FILENO: i32 = 3;
@@ -24,12 +28,43 @@ pub const FAILED: u8 = b'2';
 // More turns of a program's loop than any run takes: each works on what is at hand, then reads or writes once.
 pub const TURNS: u64 = 140737488355328;
 
+// How many writes of the status a signal may interrupt before it is given up.
+const TELLS: u32 = 64;
+
+// The longest name of a file, with the byte behind it.
+const NAME_MOST: usize = 4096;
+
+// The numbers of the errors of a name that is too long, and of one that is no text.
+const TOO_LONG: i32 = 36;
+
+const NO_TEXT: i32 = 84;
+
+// What a program reads: standard input or an open file.
+#[derive(Drop)]
+pub enum Source {
+    Input(Stdin),
+    Opened(File),
+}
+
+impl Read for Source {
+    fn read(&mut self, buf: &mut [u8]) -> std::io::Result<usize> {
+        match self {
+            Source::Input(input) => input.read(buf),
+            Source::Opened(file) => file.read(buf),
+        }
+    }
+}
+
 // The most bytes of the word before a refused line, with the space behind it.
 const WORD_MOST: usize = 6;
 
-// Tells the status.
+// Tells the status. One byte is taken whole or not at all, so what was interrupted is tried again.
 pub fn tell(status: u8) {
-    write_out(STATUS_FILENO, &[status]);
+    for _ in 0..TELLS {
+        if io::write_all(STATUS_FILENO, &[status]) {
+            return;
+        }
+    }
 }
 
 // How the program stands after a read or a write.
@@ -47,39 +82,70 @@ pub fn status_of(code: u32) -> u8
 }
 
 // Tells the refused line, where there is one, on standard error: a word with the space behind it comes first.
-pub fn tell_line(what: &[u8], code: u32, line: u64)
+pub fn tell_line(rt: &HostRuntime, what: &[u8], code: u32, line: u64)
     requires { length what.now ≤ word_most }
 {
     if code > 0 {
         let mut told = [0u8; WORD_MOST + LONGEST_BEHIND];
         let end = refusal_line(what, code, line, &mut told);
-        write_out(libc::STDERR_FILENO, &told[..end]);
+        let mut errors = rt.stderr();
+        write_out(&mut errors, &told[..end]);
     }
 }
 
-// Writes out the first bytes of the output, up to a place.
-pub fn flush(out: &[u8], at: usize) -> u8
+// Writes out the first bytes of the output, up to a place, on standard output.
+pub fn flush(rt: &HostRuntime, out: &[u8], at: usize) -> u8
     requires { at ≤ length out.now }
     ensures { Stopped result → ⊥ }
 {
-    status_after(!write_out(libc::STDOUT_FILENO, &out[..at]))
+    let mut output = rt.stdout();
+    status_after(!write_out(&mut output, &out[..at]))
 }
 
-// The file that an argument names, standard input where there is no such argument, or a negative number where it cannot
-// be opened, which is told on standard error; `what` stands there for an argument that is no name.
-pub fn opened(named: usize, what: &[u8]) -> i32 {
-    if os::arg_count() <= named {
-        return libc::STDIN_FILENO;
+// The text of an error without the number that stands behind it.
+fn reason(text: &str) -> &str {
+    match text.split_once(" (os error ") {
+        Some((front, _)) => front,
+        None => text,
     }
-    let mut path = io::buffer();
-    let length = os::arg(named, &mut path);
-    if os::errno() != 0 {
-        os::fail(what);
-        return -1;
+}
+
+// Tells on standard error what failed and why.
+fn tell_failure(rt: &HostRuntime, what: &[u8], error: Error) {
+    let mut errors = rt.stderr();
+    write_out(&mut errors, what);
+    write_out(&mut errors, b": ");
+    if let Ok(text) = format!(in rt.alloc(); "{error}") {
+        write_out(&mut errors, reason(text.as_str()).as_bytes());
     }
-    let fd = os::open_read(&path[..length]);
-    if fd < 0 {
-        os::fail(&path[..length]);
+    write_out(&mut errors, b"\n");
+}
+
+// The file of a name, or none where it cannot be opened, which is told on standard error.
+fn open_named(rt: &HostRuntime, name: &[u8]) -> Option<Source> {
+    let file = match std::str::from_utf8(name) {
+        Ok(path) => File::open(rt, path),
+        Err(_) => Err(Error::from_raw_os_error(NO_TEXT)),
+    };
+    match file {
+        Ok(file) => Some(Source::Opened(file)),
+        Err(error) => {
+            tell_failure(rt, name, error);
+            None
+        }
     }
-    fd
+}
+
+// The file that an argument names, standard input where there is no such argument, or none where it cannot be opened,
+// which is told on standard error; `what` stands there for an argument that is no name.
+pub fn opened(rt: &HostRuntime, named: usize, what: &[u8]) -> Option<Source> {
+    let mut path = [0u8; NAME_MOST];
+    match rt.arg(named, &mut path) {
+        Ok(length) => open_named(rt, &path[..length]),
+        Err(FillError::NotPresent) => Some(Source::Input(rt.stdin())),
+        Err(FillError::TooLong) => {
+            tell_failure(rt, what, Error::from_raw_os_error(TOO_LONG));
+            None
+        }
+    }
 }

@@ -3,6 +3,7 @@ ghost use Rattle.std.specs.Prelude.{◌≡◌, true, ◌<◌, length};
 ghost use Rattle.window.specs.Writing.{Wrote};
 
 use crate::interrupted;
+use std::io::Write;
 
 // How many interruptions a call of `write_out` bears before it gives up, so that it ends whatever the signals: more
 // than come, since at a million a second they would take four years.
@@ -18,42 +19,43 @@ struct Written {
 }
 
 // One write of the bytes from a place on. One that takes none has failed, unless a signal interrupted it.
-fn write_some(fd: i32, bytes: &[u8], from: usize, borne: u64) -> Written
+fn write_some<W: Write>(writer: &mut W, bytes: &[u8], from: usize, borne: u64) -> Written
     requires { from < length bytes.now }
     ensures { Wrote (length bytes.now) from borne result }
 {
-    let got = libc::write(fd, &bytes[from..]);
-    let n = io::count(got, &bytes[from..]);
-    if n > 0 {
-        return Written {
+    let got = writer.write(&bytes[from..]);
+    match got {
+        Ok(n) => Written {
             to: from + n,
             borne: borne,
-            failed: false,
-        };
-    }
-    if borne > 0 && got < 0 && interrupted() {
-        return Written {
-            to: from,
-            borne: borne - 1,
-            failed: false,
-        };
-    }
-    Written {
-        to: from,
-        borne: borne,
-        failed: true,
+            failed: n == 0,
+        },
+        Err(error) => {
+            if borne > 0 && interrupted(&error) {
+                return Written {
+                    to: from,
+                    borne: borne - 1,
+                    failed: false,
+                };
+            }
+            Written {
+                to: from,
+                borne: borne,
+                failed: true,
+            }
+        }
     }
 }
 
 // Writes the bytes, and answers whether the file took all of them; where it did not, it may have taken some. What a
 // file takes no contract can say: the answer is known where there are no bytes.
-pub fn write_out(fd: i32, bytes: &[u8]) -> bool
+pub fn write_out<W: Write>(writer: &mut W, bytes: &[u8]) -> bool
     ensures { length bytes.now ≡ 0 → result ≡ true }
 {
     let mut at: usize = 0;
     let mut borne = INTERRUPTIONS;
     while at < bytes.len() {
-        let written = write_some(fd, bytes, at, borne);
+        let written = write_some(writer, bytes, at, borne);
         if written.failed {
             return false;
         }
