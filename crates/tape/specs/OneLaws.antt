@@ -41,6 +41,7 @@ one_most n (whole e) [] w h = omega arith
 one_most n (whole e) (v ∷ vs) w h = absurd (false≢true h)
 one_most n (bad code) vs w h = absurd (false≢true h)
 one_most n (more f) [] w h = omega arith
+one_most zero (more f) (v ∷ vs) w h = elim w [ ]
 one_most (suc n) (more f) (v ∷ vs) (more_within w) h = let i = one_most n (f v) vs (w v) h in omega arith
 
 pub one_within : (vs : List ℕ) → one_event event vs ≡ true → length vs ≤ most_numbers

@@ -64,6 +64,7 @@ module _ (s : List ℕ) (code p : ℕ) where
   by_bytes : (form : Form) (last at : ℕ) → NoneBad form → reading form s last at ≡ Refused code p → number_at s p ≡ number.Refused code
   unfolding reading
   by_bytes (whole e) last at none q = absurd (refused_read code p e at (sym q))
+  by_bytes (bad _) last at none q = elim none [ ]
   by_bytes (more f) last at (none_more none) q = elim (answer (number_at s at)) [
     | is_read v next r ↦ by_bytes (f v) at next (none v) (rw r at q)
     | is_refused k r ↦ same_refusal r (rw r at q)

@@ -1,6 +1,6 @@
 -- Where an event ends, and what of a tape it depends on: the bytes of the longest event from its place on are enough,
 -- and bytes before it move its place alone. So a program may read a tape of any length through a buffer.
-use Rattle.std.specs.Prelude.{◌≡◌, refl, ◌⊎◌, List, [], ◌∷◌, ◌++◌, ℕ, suc, ◌+◌, ◌*◌, ◌≤◌, ◌<◌, length}
+use Rattle.std.specs.Prelude.{◌≡◌, refl, ◌⊎◌, List, [], ◌∷◌, ◌++◌, ℕ, zero, suc, ◌+◌, ◌*◌, ◌≤◌, ◌<◌, length}
 use Rattle.std.proofs.Common.{sym, ap, ◌∙◌, inl, inr, ⊎_elim, append-nil, arith, lt-ltb, le-ltb, length-append}
 use Rattle.numeral.specs.declared.Number.TheVariants as number
 use Rattle.numeral.specs.Number.{groups, number_at}
@@ -69,6 +69,7 @@ place_in :
 unfolding reading
 place_in n (whole _) s last at e end w q = let p : at ≡ end = cc in (omega arith, omega arith, λ h. omega arith)
 place_in n (bad code) s last at e end w q = absurd (refused_read code last e end q)
+place_in zero (more f) s last at e end w q = elim w [ ]
 place_in (suc n) (more f) s last at e end (more_within w) q =
     elim (answer (number_at s at)) [
       | is_read v next p ↦
@@ -120,6 +121,7 @@ window_in :
 unfolding reading numbers_at
 window_in n (whole e) s rest last at w h = (refl, refl)
 window_in n (bad code) s rest last at w h = (refl, refl)
+window_in zero (more f) s rest last at w h = elim w [ ]
 window_in (suc n) (more f) s rest last at (more_within w) h =
     let same = number_window.goes_on s rest at (number_window.long_enough s at (omega arith)) in
     elim (answer (number_at s at)) [
