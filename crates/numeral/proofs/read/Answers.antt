@@ -1,7 +1,6 @@
 -- `numeral::read` meets its contract: one byte and two bytes by the laws of `Steps`, and else what `groups` ensures at
 -- five groups.
-use mathlib.Core.Path.{sym, ◌∙◌}
-use native.Mathlib.Omega.{arith}
+use Rattle.std.proofs.Common.{sym, ◌∙◌, arith}
 use Rattle.numeral.specs.Number.{groups, number_at}
 use Rattle.numeral.specs.Steps.{at_last, at_two, joined_zero, joined_read}
 use Rattle.numeral.proofs.read.Goals as goal

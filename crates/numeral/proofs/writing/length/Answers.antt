@@ -1,6 +1,5 @@
 -- `length` meets its contract: each return by the bytes that hold the number.
-use native.Mathlib.Omega.{arith}
-use mathlib.Core.Path.{sym}
+use Rattle.std.proofs.Common.{arith, sym}
 use Rattle.numeral.specs.Writing.{bytes_by}
 use Rattle.numeral.proofs.writing.length.Goals as goal
 
