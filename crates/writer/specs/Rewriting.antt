@@ -1,6 +1,5 @@
 -- One event of a tape, read and written rewritten.
 use Rattle.std.specs.Prelude.{List, ℕ}
-use Rattle.tape.specs.declared.Event.{Event}
 use Rattle.tape.specs.declared.Reading.{Reading}
 use Rattle.tape.specs.declared.Reading.TheVariants.{Read, Refused, End}
 use Rattle.tape.specs.Tape.{event_at, entries_at}
