@@ -1,6 +1,6 @@
 // What the number of an order says when a tenant looks it up.
 ghost use Rattle.std.specs.Prelude.{◌≡◌};
-ghost use Rattle.book.specs.Lent.{owning};
+ghost use Rattle.book.specs.Lent.{finding};
 ghost use Rattle.book.specs.Lookup.{found};
 
 use rows::passes::order_row;
@@ -24,7 +24,7 @@ pub fn find(
     number: u32,
     next: u64,
 ) -> Found
-    ensures { owning sizes owners numbers (λ b _. result ≡ found b next tenant number) }
+    ensures { finding sizes owners numbers (λ b. result ≡ found b next tenant number) }
 {
     let row = order_row(owners, numbers, sizes, tenant, number);
     if row < ROWS {

@@ -2,7 +2,7 @@
 ghost use Rattle.std.specs.Prelude.{◌≡◌, ◌*◌, ◌-◌, min, length};
 ghost use Rattle.units.specs.Places.{at, table};
 ghost use Rattle.rows.specs.Rows.{rows};
-ghost use Rattle.book.specs.Lent.{before, after};
+ghost use Rattle.book.specs.Lent.{before_sizing, after_sizing};
 ghost use Rattle.book.specs.Trading.{traded, after_trade, trade_written};
 ghost use Rattle.book.specs.Answers.{traded_of};
 ghost use Rattle.book.specs.Fit.{Fit};
@@ -59,10 +59,10 @@ pub fn trade(
 ) -> Traded
     requires fit { Fit prices.now sizes.old numbers.now }
     requires lent_len { length lent.old ≡ fields * rows }
-    ensures numbers_value { after sides prices sizes owners numbers ≡ after_trade (before sides prices sizes owners numbers) side bound.0 q.0 allocation }
-    ensures lent_after { lent.new ≡ trade_written (before sides prices sizes owners numbers) side bound.0 q.0 allocation lent.old }
-    ensures shared_after { shared.new ≡ table (traded (before sides prices sizes owners numbers) side bound.0 q.0 allocation) rows }
-    ensures value { result ≡ traded_of (before sides prices sizes owners numbers) side bound.0 q.0 allocation }
+    ensures numbers_value { after_sizing sides prices sizes owners numbers ≡ after_trade (before_sizing sides prices sizes owners numbers) side bound.0 q.0 allocation }
+    ensures lent_after { lent.new ≡ trade_written (before_sizing sides prices sizes owners numbers) side bound.0 q.0 allocation lent.old }
+    ensures shared_after { shared.new ≡ table (traded (before_sizing sides prices sizes owners numbers) side bound.0 q.0 allocation) rows }
+    ensures value { result ≡ traded_of (before_sizing sides prices sizes owners numbers) side bound.0 q.0 allocation }
 {
     let all = resting_within(side, bound, sides, prices, sizes);
     if all.0 == 0 {
