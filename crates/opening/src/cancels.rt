@@ -1,7 +1,7 @@
 // What an opening cancels, told by what the fills left.
 ghost use Rattle.std.specs.Prelude.{◌≡◌, length};
 ghost use Rattle.units.specs.Lent.{found};
-ghost use Rattle.units.specs.Places.{table};
+ghost use Rattle.units.specs.Places.{at, table};
 ghost use Rattle.rows.specs.Rows.{rows};
 ghost use Rattle.opening.specs.Opening.{buy_cut, sell_cut, kept_by, cut_of, kept_of};
 
@@ -80,7 +80,7 @@ fn kept(cut: Cut, side: u32, price: Cents, size: Contracts) -> Contracts
 // Cancels what would lock or cross the open book.
 pub(crate) fn cancel(price: Cents, sides: &Column, prices: &Column, sizes: &mut Column)
     requires { length sizes.old ≡ rows }
-    ensures { sizes.new ≡ table (kept_of rows (found sides) (found prices) (found sizes) price.0) rows }
+    ensures { sizes.new ≡ table (kept_of rows (found sides) (found prices) (at sizes.old) price.0) rows }
 {
     let cut = cut_at(price, sides, prices, sizes);
     let mut i: usize = 0;

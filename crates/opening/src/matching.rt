@@ -5,7 +5,7 @@ ghost use Rattle.units.specs.Places.{at, table};
 ghost use Rattle.units.specs.Units.{most32};
 ghost use Rattle.rows.specs.Rows.{rows};
 ghost use Rattle.rows.specs.Passes.{resting_within};
-ghost use Rattle.book.specs.Lent.{before, after, ownerless};
+ghost use Rattle.book.specs.Lent.{before_sizing, after_sizing, ownerless};
 ghost use Rattle.book.specs.Fit.{Fit};
 ghost use Rattle.book.specs.Records.{fields};
 ghost use Rattle.opening.specs.Opening.{both_fill, matched, after_opening, opening_written};
@@ -84,10 +84,10 @@ pub fn open_at(
 ) -> Matched
     requires fit { Fit prices.now sizes.old numbers.now }
     requires lent_len { length lent.old ≡ fields * rows }
-    ensures numbers_value { after sides prices sizes owners numbers ≡ after_opening (before sides prices sizes owners numbers) price.0 }
-    ensures lent_after { lent.new ≡ opening_written (before sides prices sizes owners numbers) price.0 lent.old }
-    ensures shared_after { shared.new ≡ table (matched (before sides prices sizes owners numbers) price.0) rows }
-    ensures value { result ≡ matched_of (before sides prices sizes owners numbers) price.0 }
+    ensures numbers_value { after_sizing sides prices sizes owners numbers ≡ after_opening (before_sizing sides prices sizes owners numbers) price.0 }
+    ensures lent_after { lent.new ≡ opening_written (before_sizing sides prices sizes owners numbers) price.0 lent.old }
+    ensures shared_after { shared.new ≡ table (matched (before_sizing sides prices sizes owners numbers) price.0) rows }
+    ensures value { result ≡ matched_of (before_sizing sides prices sizes owners numbers) price.0 }
 {
     let buys = resting_within(BUY, price, sides, prices, sizes);
     let sells = resting_within(SELL, price, sides, prices, sizes);
