@@ -59,7 +59,8 @@ pub fn trade(
 ) -> Traded
     requires fit { Fit prices.now sizes.old numbers.now }
     requires lent_len { length lent.old ≡ fields * rows }
-    ensures numbers_value { after_sizing sides prices sizes owners numbers ≡ after_trade (before_sizing sides prices sizes owners numbers) side bound.0 q.0 allocation }
+    ensures numbers_value { after_sizing sides prices sizes owners numbers
+        ≡ after_trade (before_sizing sides prices sizes owners numbers) side bound.0 q.0 allocation }
     ensures lent_after { lent.new ≡ trade_written (before_sizing sides prices sizes owners numbers) side bound.0 q.0 allocation lent.old }
     ensures shared_after { shared.new ≡ table (traded (before_sizing sides prices sizes owners numbers) side bound.0 q.0 allocation) rows }
     ensures value { result ≡ traded_of (before_sizing sides prices sizes owners numbers) side bound.0 q.0 allocation }
