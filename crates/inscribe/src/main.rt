@@ -11,23 +11,22 @@ use tape::MOST_NUMBERS;
 use window::program::{
     FAILED, GOING, TURNS, flush, opened, status_after, status_of, tell, tell_line,
 };
-use window::refill;
+use window::{WINDOW, refill};
 
 // Tells the refused line, where there is one.
-fn tell_refused(code: u32, line: u64) {
-    tell_line(b"write ", code, line);
+fn tell_refused(rt: &HostRuntime, code: u32, line: u64) {
+    tell_line(rt, b"write ", code, line);
 }
 
-fn main() {
-    let fd = opened(1, b"text");
-    if fd < 0 {
+fn main(rt: HostRuntime) {
+    let Some(mut source) = opened(&rt, 1, b"text") else {
         tell(FAILED);
         return;
-    }
+    };
     let mut place = Place::new();
     let mut numbers = [0u32; MOST_NUMBERS];
-    let mut window = io::large_buffer();
-    let mut out = io::large_buffer();
+    let mut window = [0u8; WINDOW];
+    let mut out = [0u8; WINDOW];
     let mut at: usize = 0;
     let mut from: usize = 0;
     let mut to: usize = 0;
@@ -44,14 +43,14 @@ fn main() {
         let next = done.next;
         match next {
             Next::Read => {
-                let filled = refill(fd, &mut window, from, to, 0);
+                let filled = refill(&mut source, &mut window, from, to, 0);
                 from = 0;
                 to = filled.to;
                 more = filled.more;
                 status = status_after(filled.failed);
             }
             Next::Write => {
-                status = flush(&out, at);
+                status = flush(&rt, &out, at);
                 at = 0;
             }
             Next::Stop(how) => {
@@ -60,8 +59,8 @@ fn main() {
             }
         }
     }
-    if flush(&out, at) == GOING && status != FAILED {
-        tell_refused(code, place.line);
+    if flush(&rt, &out, at) == GOING && status != FAILED {
+        tell_refused(&rt, code, place.line);
         tell(status);
     } else {
         tell(FAILED);

@@ -16,8 +16,9 @@ use playing::{Next, play};
 use replay::stepping::GOING;
 use replay::tallying::tally_lines;
 use session::Session;
-use window::program::{FAILED, TURNS, flush, opened, status_after, tell};
-use window::refill;
+use std::rt::Env;
+use window::program::{FAILED, NAME_MOST, Source, TURNS, flush, opened, status_after, tell};
+use window::{WINDOW, refill};
 
 fn same(a: &[u8], b: &[u8]) -> bool {
     if a.len() != b.len() {
@@ -34,36 +35,37 @@ fn same(a: &[u8], b: &[u8]) -> bool {
 }
 
 // Whether the first argument asks for the tallies.
-fn tallies_asked() -> bool {
-    let mut first = io::buffer();
-    let length = os::arg(1, &mut first);
-    same(&first[..length], b"--tallies")
+fn tallies_asked(rt: &HostRuntime) -> bool {
+    let mut first = [0u8; NAME_MOST];
+    match rt.arg(1, &mut first) {
+        Ok(length) => same(&first[..length], b"--tallies"),
+        Err(_) => false,
+    }
 }
 
 // Prints the tallies where they are asked for. The lines before them are written out, so they have the whole output.
-fn print_tallies(s: Session, out: &mut Output) -> u8
+fn print_tallies(rt: &HostRuntime, s: Session, out: &mut Output) -> u8
     requires { length out.old ≡ output }
 {
-    if tallies_asked() {
+    if tallies_asked(rt) {
         let end = tally_lines(s, out, 0);
-        flush(out, end)
+        flush(rt, out, end)
     } else {
         GOING
     }
 }
 
-// The tape's file, or a negative number where it cannot be opened.
-fn tape_file() -> i32 {
-    let named: usize = if tallies_asked() { 2 } else { 1 };
-    opened(named, b"tape")
+// The tape's file, or none where it cannot be opened.
+fn tape_file(rt: &HostRuntime) -> Option<Source> {
+    let named: usize = if tallies_asked(rt) { 2 } else { 1 };
+    opened(rt, named, b"tape")
 }
 
-fn main() {
-    let fd = tape_file();
-    if fd < 0 {
+fn main(rt: HostRuntime) {
+    let Some(mut source) = tape_file(&rt) else {
         tell(FAILED);
         return;
-    }
+    };
     let mut s = Session::new();
     let mut sides = [0u32; 216];
     let mut prices = [0u32; 216];
@@ -72,8 +74,8 @@ fn main() {
     let mut numbers = [0u32; 216];
     let mut entries = [0u32; ALL_ENTRIES];
     let mut given = [0u32; BULK_NUMBERS];
-    let mut window = io::large_buffer();
-    let mut out = io::large_buffer();
+    let mut window = [0u8; WINDOW];
+    let mut out = [0u8; WINDOW];
     let mut at: usize = 0;
     let mut from: usize = 0;
     let mut to: usize = 0;
@@ -105,7 +107,7 @@ fn main() {
         let next = done.next;
         match next {
             Next::Read => {
-                let filled = refill(fd, &mut window, from, to, base);
+                let filled = refill(&mut source, &mut window, from, to, base);
                 base = filled.base;
                 from = 0;
                 to = filled.to;
@@ -113,7 +115,7 @@ fn main() {
                 status = status_after(filled.failed);
             }
             Next::Write => {
-                status = flush(&out, at);
+                status = flush(&rt, &out, at);
                 at = 0;
             }
             Next::Stop(how) => {
@@ -121,7 +123,10 @@ fn main() {
             }
         }
     }
-    if flush(&out, at) == GOING && status != FAILED && print_tallies(s, &mut out) == GOING {
+    if flush(&rt, &out, at) == GOING
+        && status != FAILED
+        && print_tallies(&rt, s, &mut out) == GOING
+    {
         tell(status);
     } else {
         tell(FAILED);

@@ -11,7 +11,7 @@ ghost use Rattle.rewrite.specs.Rewriting.{StepsTo};
 
 use tape::MOST_BYTES;
 use window::program::{ENDED, FAILED, GOING, REFUSED, TURNS, flush, opened, status_after, tell};
-use window::{is_short, refill};
+use window::{WINDOW, is_short, refill};
 use writer::Written;
 use writer::rewriting::{Rewritten, rewrite};
 
@@ -57,14 +57,13 @@ fn step(bytes: &[u8], from: usize, out: &mut [u8], at: usize) -> Stepped
     }
 }
 
-fn main() {
-    let fd = opened(1, b"tape");
-    if fd < 0 {
+fn main(rt: HostRuntime) {
+    let Some(mut source) = opened(&rt, 1, b"tape") else {
         tell(FAILED);
         return;
-    }
-    let mut window = io::large_buffer();
-    let mut out = io::large_buffer();
+    };
+    let mut window = [0u8; WINDOW];
+    let mut out = [0u8; WINDOW];
     let mut at: usize = 0;
     let mut from: usize = 0;
     let mut to: usize = 0;
@@ -74,13 +73,13 @@ fn main() {
     while turns > 0 && status == GOING {
         turns -= 1;
         if is_short(from, to, more, MOST_BYTES) {
-            let filled = refill(fd, &mut window, from, to, 0);
+            let filled = refill(&mut source, &mut window, from, to, 0);
             from = 0;
             to = filled.to;
             more = filled.more;
             status = status_after(filled.failed);
         } else if out.len() - at < MOST_BYTES {
-            status = flush(&out, at);
+            status = flush(&rt, &out, at);
             at = 0;
         } else {
             let done = step(&window[..to], from, &mut out, at);
@@ -89,7 +88,7 @@ fn main() {
             status = done.status;
         }
     }
-    if flush(&out, at) == GOING && status != FAILED {
+    if flush(&rt, &out, at) == GOING && status != FAILED {
         tell(status);
     } else {
         tell(FAILED);

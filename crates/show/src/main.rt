@@ -7,10 +7,10 @@ use entry::Settings;
 use fills::on_row::{TurnedRow, open_on_row, turn_on_row};
 use fills::turn_fills;
 use lanes::ALL_ENTRIES;
-use libc::STDOUT_FILENO;
 use session::Session;
 use session::settings::settings;
 use session::submit::submit;
+use std::io;
 use units::Cents;
 
 // Time class, grid 1, a call at 10000, D 10, F 20, x 10, least 25, greatest 500, no prints.
@@ -30,35 +30,35 @@ fn worked() -> Settings {
     }
 }
 
-fn number(n: u32) {
-    io::write_all(STDOUT_FILENO, b" ");
-    io::print_decimal(STDOUT_FILENO, n as u64);
+fn number(rt: &HostRuntime, n: u32) -> io::Result<()> {
+    print!(rt; " {n}")
 }
 
-fn show_fill(f: Fill) {
-    io::write_all(STDOUT_FILENO, b"fill");
-    number(f.number);
-    number(f.tenant);
-    number(f.quantity.0);
-    number(f.price.0);
-    io::write_all(STDOUT_FILENO, b"\n");
+fn show_fill(rt: &HostRuntime, f: Fill) -> io::Result<()> {
+    print!(rt; "fill")?;
+    number(rt, f.number)?;
+    number(rt, f.tenant)?;
+    number(rt, f.quantity.0)?;
+    number(rt, f.price.0)?;
+    println!(rt)
 }
 
 // The fills that the turn wrote.
-fn show(done: TurnedRow) {
+fn show(rt: &HostRuntime, done: TurnedRow) -> io::Result<()> {
     let turned = done.turned;
     let row = done.row;
     let count = turn_fills(turned);
     let mut i: usize = 0;
     while i < 216 {
         if i < count {
-            show_fill(row[i]);
+            show_fill(rt, row[i])?;
         }
         i += 1;
     }
+    Ok(())
 }
 
-fn main() {
+fn main(rt: HostRuntime) -> io::Result<()> {
     let mut sides = [0u32; 216];
     let mut prices = [0u32; 216];
     let mut sizes = [0u32; 216];
@@ -90,7 +90,7 @@ fn main() {
         &mut numbers,
         &entries,
     );
-    show(first);
+    show(&rt, first)?;
     let turned = first.turned;
     let second = turn_on_row(
         turned.session,
@@ -101,5 +101,5 @@ fn main() {
         &mut numbers,
         &entries,
     );
-    show(second);
+    show(&rt, second)
 }

@@ -20,7 +20,7 @@ use tape::events::SUBMIT;
 use window::program::{
     FAILED, GOING, TURNS, flush, opened, status_after, status_of, tell, tell_line,
 };
-use window::refill;
+use window::{WINDOW, refill};
 use writer::{Written, write};
 
 // How far sending has come: the place in the sheet, that of the next byte at hand, the place after what is written, and
@@ -128,20 +128,19 @@ fn last_code(place: Place) -> u32
 }
 
 // Tells the refused line, where there is one.
-fn tell_refused(code: u32, line: u64) {
-    tell_line(b"sheet ", code, line);
+fn tell_refused(rt: &HostRuntime, code: u32, line: u64) {
+    tell_line(rt, b"sheet ", code, line);
 }
 
-fn main() {
-    let fd = opened(1, b"sheet");
-    if fd < 0 {
+fn main(rt: HostRuntime) {
+    let Some(mut source) = opened(&rt, 1, b"sheet") else {
         tell(FAILED);
         return;
-    }
+    };
     let mut place = Place::new();
     let mut held = [0u8; LINE_MOST];
-    let mut window = io::large_buffer();
-    let mut out = io::large_buffer();
+    let mut window = [0u8; WINDOW];
+    let mut out = [0u8; WINDOW];
     let mut at: usize = 0;
     let mut from: usize = 0;
     let mut to: usize = 0;
@@ -159,10 +158,10 @@ fn main() {
         if code > 0 {
             status = status_of(code);
         } else if out.len() - at < MOST_BYTES {
-            status = flush(&out, at);
+            status = flush(&rt, &out, at);
             at = 0;
         } else if more {
-            let filled = refill(fd, &mut window, from, to, 0);
+            let filled = refill(&mut source, &mut window, from, to, 0);
             from = 0;
             to = filled.to;
             more = filled.more;
@@ -172,8 +171,8 @@ fn main() {
             status = status_of(code);
         }
     }
-    if flush(&out, at) == GOING && status != FAILED {
-        tell_refused(code, place.line);
+    if flush(&rt, &out, at) == GOING && status != FAILED {
+        tell_refused(&rt, code, place.line);
         tell(status);
     } else {
         tell(FAILED);

@@ -15,6 +15,9 @@ ghost use Rattle.window.specs.Window.{is_short, Refilled};
 
 use std::io::{Error, ErrorKind, Read};
 
+// The bytes of the window that a program holds, and of its output.
+pub const WINDOW: usize = 65536;
+
 // What a read gave: the place after the bytes at hand, the place of the window's first byte in the file, whether the
 // file may go on, and whether the read failed.
 #[derive(Clone, Copy)]

@@ -31,8 +31,8 @@ pub const TURNS: u64 = 140737488355328;
 // How many writes of the status a signal may interrupt before it is given up.
 const TELLS: u32 = 64;
 
-// The longest name of a file, with the byte behind it.
-const NAME_MOST: usize = 4096;
+// The bytes that an argument may have, and one behind them.
+pub const NAME_MOST: usize = 4096;
 
 // The numbers of the errors of a name that is too long, and of one that is no text.
 const TOO_LONG: i32 = 36;
