@@ -1,6 +1,6 @@
 -- What an entry meets, what is made of it, and the words by which contracts name both.
 use Rattle.std.specs.Prelude.{List, ℕ, ◌+◌}
-use Rattle.units.specs.Lent.{Column, Lent}
+use Rattle.units.specs.Lent.{ColumnMut, LentMut}
 use Rattle.book.specs.Book.{Book}
 use Rattle.book.specs.Lent.{given, before, after}
 use Rattle.tally.specs.declared.Tally.{Tally}
@@ -40,12 +40,12 @@ abbrev pub floor_after : Floor → Made → Floor
 floor_after f d = floor_of f.series d.tallies (next_after f.number d.came) d.book
 
 -- the floor of lent columns, in a demand
-abbrev pub lent_floor : Series → List Tally → ℕ → Column → Column → Column → Column → Column → Floor
+abbrev pub lent_floor : Series → List Tally → ℕ → ColumnMut → ColumnMut → ColumnMut → ColumnMut → ColumnMut → Floor
 lent_floor series tallies number sides prices sizes owners numbers = floor_of series tallies number (given sides prices sizes owners numbers)
 
 -- and in a promise: what the entry met, and what was made of it
-abbrev pub met : Series → List Tally → ℕ → Lent → Lent → Lent → Lent → Lent → Floor
+abbrev pub met : Series → List Tally → ℕ → LentMut → LentMut → LentMut → LentMut → LentMut → Floor
 met series tallies number sides prices sizes owners numbers = floor_of series tallies number (before sides prices sizes owners numbers)
 
-abbrev pub made : Dealt → Lent → Lent → Lent → Lent → Lent → Lent → Made
+abbrev pub made : Dealt → LentMut → LentMut → LentMut → LentMut → LentMut → LentMut → Made
 made r sides prices sizes owners numbers records = made_of r (after sides prices sizes owners numbers) records.exit.now

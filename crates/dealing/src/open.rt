@@ -1,6 +1,6 @@
 // An open: which way it goes, and the opening of a book at a price, with the tallies.
 ghost use Rattle.std.specs.Prelude.{◌≡◌};
-ghost use Rattle.book.specs.Lent.{given, before, after, quoting};
+ghost use Rattle.book.specs.Lent.{given_sizing, before_sizing, after_sizing, quoting};
 ghost use Rattle.opening.specs.Opening.{after_opening, opening_written};
 ghost use Rattle.dealing.specs.Open.{CanOpen, counted_of, choice_in, way_of};
 
@@ -94,10 +94,10 @@ pub fn open_book(
     numbers: &Column,
     records: &mut Records,
 ) -> Counted
-    requires { CanOpen tallies (given sides prices sizes owners numbers) records.old }
-    ensures numbers_value { after sides prices sizes owners numbers ≡ after_opening (before sides prices sizes owners numbers) price.0 }
-    ensures records_after { records.new ≡ opening_written (before sides prices sizes owners numbers) price.0 records.old }
-    ensures value { result ≡ counted_of tallies (before sides prices sizes owners numbers) price.0 }
+    requires { CanOpen tallies (given_sizing sides prices sizes owners numbers) records.old }
+    ensures numbers_value { after_sizing sides prices sizes owners numbers ≡ after_opening (before_sizing sides prices sizes owners numbers) price.0 }
+    ensures records_after { records.new ≡ opening_written (before_sizing sides prices sizes owners numbers) price.0 records.old }
+    ensures value { result ≡ counted_of tallies (before_sizing sides prices sizes owners numbers) price.0 }
 {
     let mut shared = [0u32; 216];
     let done = open_at(

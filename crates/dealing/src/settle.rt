@@ -1,6 +1,6 @@
 // What an order that trades makes of the book, the records and the tallies, before what is left of it is disposed of.
 ghost use Rattle.std.specs.Prelude.{◌≡◌};
-ghost use Rattle.book.specs.Lent.{given, before, after};
+ghost use Rattle.book.specs.Lent.{given_sizing, before_sizing, after_sizing};
 ghost use Rattle.book.specs.Trading.{after_trade, trade_written};
 ghost use Rattle.dealing.specs.Settle.{other_side, opposite, Settles, settled_of};
 ghost use Rattle.dealing.specs.Reach.{Quoted, out_of_reach};
@@ -44,12 +44,12 @@ fn settle(
     numbers: &Column,
     records: &mut Records,
 ) -> Settled
-    requires { Settles tallies t e (given sides prices sizes owners numbers) records.old }
-    ensures numbers_value { after sides prices sizes owners numbers
-        ≡ after_trade (before sides prices sizes owners numbers) (opposite e) bound.0 e.size.0 allocation }
+    requires { Settles tallies t e (given_sizing sides prices sizes owners numbers) records.old }
+    ensures numbers_value { after_sizing sides prices sizes owners numbers
+        ≡ after_trade (before_sizing sides prices sizes owners numbers) (opposite e) bound.0 e.size.0 allocation }
     ensures records_after { records.new
-        ≡ trade_written (before sides prices sizes owners numbers) (opposite e) bound.0 e.size.0 allocation records.old }
-    ensures value { result ≡ settled_of tallies t e (before sides prices sizes owners numbers) bound.0 allocation }
+        ≡ trade_written (before_sizing sides prices sizes owners numbers) (opposite e) bound.0 e.size.0 allocation records.old }
+    ensures value { result ≡ settled_of tallies t e (before_sizing sides prices sizes owners numbers) bound.0 allocation }
 {
     let mut shared = [0u32; 216];
     let side = other_side(e.side);
@@ -111,13 +111,13 @@ pub(crate) fn settle_in_reach(
     numbers: &Column,
     records: &mut Records,
 ) -> Settled
-    requires settles { Settles tallies t e (given sides prices sizes owners numbers) records.old }
-    requires quoted { Quoted (given sides prices sizes owners numbers) quotes }
-    ensures numbers_value { after sides prices sizes owners numbers
-        ≡ after_trade (before sides prices sizes owners numbers) (opposite e) bound.0 e.size.0 allocation }
+    requires settles { Settles tallies t e (given_sizing sides prices sizes owners numbers) records.old }
+    requires quoted { Quoted (given_sizing sides prices sizes owners numbers) quotes }
+    ensures numbers_value { after_sizing sides prices sizes owners numbers
+        ≡ after_trade (before_sizing sides prices sizes owners numbers) (opposite e) bound.0 e.size.0 allocation }
     ensures records_after { records.new
-        ≡ trade_written (before sides prices sizes owners numbers) (opposite e) bound.0 e.size.0 allocation records.old }
-    ensures value { result ≡ settled_of tallies t e (before sides prices sizes owners numbers) bound.0 allocation }
+        ≡ trade_written (before_sizing sides prices sizes owners numbers) (opposite e) bound.0 e.size.0 allocation records.old }
+    ensures value { result ≡ settled_of tallies t e (before_sizing sides prices sizes owners numbers) bound.0 allocation }
 {
     if out_of_reach(e.side, bound, quotes) {
         return Settled {
