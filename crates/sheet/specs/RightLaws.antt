@@ -7,7 +7,6 @@ use Rattle.units.specs.Tests.{◌and◌, is_not, pick, pick_yes, pick_no, picked
 use Rattle.units.specs.Says.{same_says, and_says, or_says}
 use Rattle.units.specs.Cases.{Case, first_of}
 use Rattle.units.specs.CaseLaws.{case_at, none, none_before}
-use Rattle.units.specs.Places.{at}
 use Rattle.entry.specs.Numbers.{from1to}
 use Rattle.entry.specs.Words.{range_says}
 use Rattle.sheet.specs.declared.line.LineRead.TheVariants.{Right, Wrong}

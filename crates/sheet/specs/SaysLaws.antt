@@ -1,5 +1,5 @@
 -- What is told of a sheet, in words of its bytes: right lines, and behind them nothing, or a line that is refused.
-use Rattle.std.specs.Prelude.{◌≡◌, refl, ◌⊎◌, Bool, true, false, List, [], ◌∷◌, ◌++◌, ℕ, zero, suc, ◌+◌, ◌≤◌, ◌<◌, ltb, eqb, length, take, drop}
+use Rattle.std.specs.Prelude.{◌≡◌, refl, Bool, true, false, List, [], ◌∷◌, ◌++◌, ℕ, zero, suc, ◌+◌, ◌≤◌, ◌<◌, ltb, eqb, length, take, drop}
 use Rattle.std.proofs.Common.{sym, ap, ◌∙◌, ⊎_elim, append_assoc, append-nil, arith, ltb-true, ltb-false, eqb-true, ne_eqb, length-append, length-take, take-append-drop, length-take-le, get_or-take}
 use Prim.{tt}
 use Rattle.std.proofs.lemmas.Bool.{eqb-false}
