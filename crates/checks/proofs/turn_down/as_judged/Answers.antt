@@ -1,5 +1,5 @@
 -- `checks::turn_down::as_judged` meets its contract, by whether the order is converted.
-use mathlib.Core.Path.{sym, ◌∙◌}
+use Rattle.std.proofs.Common.{sym, ◌∙◌}
 use Rattle.units.specs.Tests.{pick}
 use Rattle.checks.specs.TurnDown.{as_judged}
 use Rattle.checks.proofs.turn_down.as_judged.Goals as goal

@@ -1,5 +1,5 @@
 -- `checks::turn_down::used_up` meets its contract: the test is the rule.
-use mathlib.Core.Path.{refl}
+use Rattle.std.proofs.Common.{refl}
 use Rattle.checks.specs.TurnDown.{used_up}
 use Rattle.checks.proofs.turn_down.used_up.Goals as goal
 

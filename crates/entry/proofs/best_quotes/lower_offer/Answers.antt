@@ -1,6 +1,5 @@
 -- `entry::best_quotes::lower_offer` meets its contract: the tests say which offers are absent, else it is the lesser.
-use mathlib.Core.Path.{ap}
-use borrow.Author.Tests.{eq-eqb, ne_eqb}
+use Rattle.std.proofs.Common.{ap, eq-eqb, ne_eqb}
 use Rattle.units.specs.Units.{cents}
 use Rattle.units.specs.Tests.{pick}
 use Rattle.entry.specs.Quotes.{lower_offer}

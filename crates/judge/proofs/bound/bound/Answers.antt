@@ -1,6 +1,5 @@
 -- `judge::bound::bound` meets its contract, by the side.
-use mathlib.Core.Path.{ap}
-use borrow.Author.Tests.{eq-eqb, ne_eqb}
+use Rattle.std.proofs.Common.{ap, eq-eqb, ne_eqb}
 use Rattle.units.specs.Units.{cents}
 use Rattle.units.specs.Tests.{pick}
 use Rattle.judge.specs.Bound.{bound_of}

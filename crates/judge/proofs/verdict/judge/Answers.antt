@@ -1,5 +1,5 @@
 -- `judge::verdict::judge` meets its contract, by the three cases of a verdict.
-use native.Mathlib.Omega.{arith}
+use Rattle.std.proofs.Common.{arith}
 use Rattle.judge.specs.VerdictLaws.{turned_down, trades, rests}
 use Rattle.judge.proofs.verdict.judge.Goals as goal
 
