@@ -6,8 +6,8 @@ pub mod on_row;
 ghost use Rattle.std.specs.Prelude.{◌≡◌, List, ℕ, ◌*◌, ◌<◌};
 ghost use Rattle.rows.specs.Rows.{rows};
 ghost use Rattle.book.specs.Fills.{fill_at, stored, Fits};
-ghost use Rattle.book.specs.Lent.{given, before, after};
-ghost use Rattle.session.specs.Market.{market_of, market_lent, market_found, market_left};
+ghost use Rattle.book.specs.Lent.{after, given_sizing, before_sizing, after_sizing};
+ghost use Rattle.session.specs.Market.{market_of, market_lent_turning, market_found_turning, market_left_turning};
 ghost use Rattle.session.specs.Sound.{Sound, BookSound};
 ghost use Rattle.session.specs.Turn.{printed, fills_in};
 ghost use Rattle.session.specs.Open.{printed as printed_open, fills_in as fills_opened};
@@ -87,12 +87,12 @@ pub fn turn(
     entries: &Entries,
     fills: &mut [Fill],
 ) -> Turned
-    requires { Sound (market_lent s sides prices sizes owners numbers entries) }
+    requires { Sound (market_lent_turning s sides prices sizes owners numbers entries) }
     ensures exact { turn_stored result (after sides prices sizes owners numbers) entries.now fills.new
-        ≡ turn_with (market_found s sides prices sizes owners numbers entries) fills.old }
-    ensures sound { Sound (market_left result.session sides prices sizes owners numbers entries) }
+        ≡ turn_with (market_found_turning s sides prices sizes owners numbers entries) fills.old }
+    ensures sound { Sound (market_left_turning result.session sides prices sizes owners numbers entries) }
     ensures values { printed result.answer
-        ≡ printed (turn_with (market_found s sides prices sizes owners numbers entries) fills.old).answer }
+        ≡ printed (turn_with (market_found_turning s sides prices sizes owners numbers entries) fills.old).answer }
 {
     let mut records = [UNWRITTEN; 864];
     let turned = turn_core(
@@ -121,13 +121,13 @@ pub fn open(
     numbers: &Column,
     fills: &mut [Fill],
 ) -> Opened
-    requires { BookSound s (given sides prices sizes owners numbers) }
-    ensures exact { (entries : List ℕ) → open_stored result (after sides prices sizes owners numbers) entries fills.new
-        ≡ open_with (market_of s (before sides prices sizes owners numbers) entries) fills.old }
-    ensures sound { (entries : List ℕ) → Sound (market_of s (before sides prices sizes owners numbers) entries)
-        → Sound (market_of result.session (after sides prices sizes owners numbers) entries) }
+    requires { BookSound s (given_sizing sides prices sizes owners numbers) }
+    ensures exact { (entries : List ℕ) → open_stored result (after_sizing sides prices sizes owners numbers) entries fills.new
+        ≡ open_with (market_of s (before_sizing sides prices sizes owners numbers) entries) fills.old }
+    ensures sound { (entries : List ℕ) → Sound (market_of s (before_sizing sides prices sizes owners numbers) entries)
+        → Sound (market_of result.session (after_sizing sides prices sizes owners numbers) entries) }
     ensures values { (entries : List ℕ) → printed_open result.answer
-        ≡ printed_open (open_with (market_of s (before sides prices sizes owners numbers) entries) fills.old).answer }
+        ≡ printed_open (open_with (market_of s (before_sizing sides prices sizes owners numbers) entries) fills.old).answer }
 {
     let mut records = [UNWRITTEN; 864];
     let opened = open_core(

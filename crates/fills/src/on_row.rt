@@ -1,7 +1,7 @@
 // The calls turn and open with a row of their own: it is lent to the call, and returned beside what the call answered.
 ghost use Rattle.std.specs.Prelude.{◌≡◌, List, ℕ};
-ghost use Rattle.book.specs.Lent.{given, before, after};
-ghost use Rattle.session.specs.Market.{market_of, market_lent, market_found, market_left};
+ghost use Rattle.book.specs.Lent.{after, given_sizing, before_sizing, after_sizing};
+ghost use Rattle.session.specs.Market.{market_of, market_lent_turning, market_found_turning, market_left_turning};
 ghost use Rattle.session.specs.Sound.{Sound, BookSound};
 ghost use Rattle.session.specs.Turn.{printed};
 ghost use Rattle.session.specs.Open.{printed as printed_open};
@@ -72,12 +72,12 @@ pub fn turn_on_row(
     numbers: &mut Column,
     entries: &Entries,
 ) -> TurnedRow
-    requires { Sound (market_lent s sides prices sizes owners numbers entries) }
+    requires { Sound (market_lent_turning s sides prices sizes owners numbers entries) }
     ensures exact { turn_stored result.turned (after sides prices sizes owners numbers) entries.now result.row
-        ≡ turn_with (market_found s sides prices sizes owners numbers entries) empty_row }
-    ensures sound { Sound (market_left result.turned.session sides prices sizes owners numbers entries) }
+        ≡ turn_with (market_found_turning s sides prices sizes owners numbers entries) empty_row }
+    ensures sound { Sound (market_left_turning result.turned.session sides prices sizes owners numbers entries) }
     ensures values { printed result.turned.answer
-        ≡ printed (turn_with (market_found s sides prices sizes owners numbers entries) empty_row).answer }
+        ≡ printed (turn_with (market_found_turning s sides prices sizes owners numbers entries) empty_row).answer }
 {
     let mut row = no_fills();
     let turned = turn(s, sides, prices, sizes, owners, numbers, entries, &mut row);
@@ -93,13 +93,13 @@ pub fn open_on_row(
     owners: &Column,
     numbers: &Column,
 ) -> OpenedRow
-    requires { BookSound s (given sides prices sizes owners numbers) }
-    ensures exact { (entries : List ℕ) → open_stored result.opened (after sides prices sizes owners numbers) entries result.row
-        ≡ open_with (market_of s (before sides prices sizes owners numbers) entries) empty_row }
-    ensures sound { (entries : List ℕ) → Sound (market_of s (before sides prices sizes owners numbers) entries)
-        → Sound (market_of result.opened.session (after sides prices sizes owners numbers) entries) }
+    requires { BookSound s (given_sizing sides prices sizes owners numbers) }
+    ensures exact { (entries : List ℕ) → open_stored result.opened (after_sizing sides prices sizes owners numbers) entries result.row
+        ≡ open_with (market_of s (before_sizing sides prices sizes owners numbers) entries) empty_row }
+    ensures sound { (entries : List ℕ) → Sound (market_of s (before_sizing sides prices sizes owners numbers) entries)
+        → Sound (market_of result.opened.session (after_sizing sides prices sizes owners numbers) entries) }
     ensures values { (entries : List ℕ) → printed_open result.opened.answer
-        ≡ printed_open (open_with (market_of s (before sides prices sizes owners numbers) entries) empty_row).answer }
+        ≡ printed_open (open_with (market_of s (before_sizing sides prices sizes owners numbers) entries) empty_row).answer }
 {
     let mut row = no_fills();
     let opened = open(s, sides, prices, sizes, owners, numbers, &mut row);

@@ -1,10 +1,10 @@
 // The five events, each run on the market and printed.
 ghost use Rattle.std.specs.Prelude.{◌≡◌, List, ℕ, ◌*◌, min};
 ghost use Rattle.book.specs.Book.{Book};
-ghost use Rattle.book.specs.Lent.{given as given_book, before, after};
+ghost use Rattle.book.specs.Lent.{given_sizing, before_sizing, after_sizing};
 ghost use Rattle.lines.specs.Laying.{Room};
 ghost use Rattle.entry.specs.Numbers.{entry_numbers};
-ghost use Rattle.session.specs.Market.{market_of, market_lent, market_found, market_left};
+ghost use Rattle.session.specs.Market.{market_of, market_lent, market_found, market_left, market_lent_turning, market_found_turning, market_left_turning};
 ghost use Rattle.session.specs.Sound.{LanesSound, BookSound};
 ghost use Rattle.replay.specs.Listing.{longest_event};
 ghost use Rattle.replay.specs.Replay.{settings_printed, away_printed, submit_printed, turn_printed, open_printed, event_printed, CanReplay, Replayed};
@@ -108,9 +108,9 @@ fn turn_event(
     out: &mut Output,
     at: usize,
 ) -> Stepped
-    requires { CanReplay (market_lent s sides prices sizes owners numbers entries) out.old at }
-    ensures { Replayed (turn_printed (market_found s sides prices sizes owners numbers entries))
-        out.old at (market_left result.session sides prices sizes owners numbers entries) out.new result.at }
+    requires { CanReplay (market_lent_turning s sides prices sizes owners numbers entries) out.old at }
+    ensures { Replayed (turn_printed (market_found_turning s sides prices sizes owners numbers entries))
+        out.old at (market_left_turning result.session sides prices sizes owners numbers entries) out.new result.at }
 {
     let done = turn_on_row(s, sides, prices, sizes, owners, numbers, entries);
     let turned = done.turned;
@@ -134,11 +134,11 @@ fn open_event(
     out: &mut Output,
     at: usize,
 ) -> Stepped
-    requires book_sound { BookSound s (given_book sides prices sizes owners numbers) }
+    requires book_sound { BookSound s (given_sizing sides prices sizes owners numbers) }
     requires room { Room out.old at longest_event }
-    ensures { (entries : List ℕ) → CanReplay (market_of s (before sides prices sizes owners numbers) entries) out.old at
-        → Replayed (open_printed (market_of s (before sides prices sizes owners numbers) entries))
-        out.old at (market_of result.session (after sides prices sizes owners numbers) entries) out.new result.at }
+    ensures { (entries : List ℕ) → CanReplay (market_of s (before_sizing sides prices sizes owners numbers) entries) out.old at
+        → Replayed (open_printed (market_of s (before_sizing sides prices sizes owners numbers) entries))
+        out.old at (market_of result.session (after_sizing sides prices sizes owners numbers) entries) out.new result.at }
 {
     let before = *sizes;
     let done = open_on_row(s, sides, prices, sizes, owners, numbers);

@@ -13,7 +13,6 @@ use Rattle.opening.specs.Opening.{after_opening, opening_written}
 use Rattle.dealing.specs.declared.open.Counted.{Counted}
 use Rattle.dealing.specs.Open.{counted_of, CanOpen, way_of}
 use Rattle.dealing.specs.Sound.{Ready}
-use Rattle.price.specs.declared.Choice.TheVariants as choice
 use Rattle.price.specs.Price.{chosen}
 use Rattle.session.specs.declared.OpenAnswer.TheVariants as answer
 use Rattle.session.specs.declared.Session.{Session}

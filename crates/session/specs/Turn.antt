@@ -1,6 +1,6 @@
 -- The call turn.
 use Rattle.std.specs.Prelude.{Bool, true, false, List, [], ◌∷◌, ℕ, leb, ltb}
-use Rattle.units.specs.Lent.{Lent}
+use Rattle.units.specs.Lent.{Lent, LentMut}
 use Rattle.units.specs.Tests.{pick}
 use Rattle.units.specs.Cases.{Case, ◌when◌, first_of}
 use Rattle.rows.specs.Rows.{rows}
@@ -35,7 +35,7 @@ abbrev pub turn_done : Turned → Book → List ℕ → List ℕ → TurnDone
 turn_done r book entries records = record { market = market_of r.session book entries; answer = r.answer; records = records }
 
 -- the same of lent columns, entries and fill records
-abbrev pub turn_left : Turned → Lent → Lent → Lent → Lent → Lent → Lent → Lent → TurnDone
+abbrev pub turn_left : Turned → LentMut → LentMut → LentMut → LentMut → LentMut → Lent → LentMut → TurnDone
 turn_left r sides prices sizes owners numbers entries records =
     turn_done r (after sides prices sizes owners numbers) entries.exit.now records.exit.now
 

@@ -2,7 +2,7 @@
 ghost use Rattle.std.specs.Prelude.{◌≡◌, List, ℕ, ◌*◌, length};
 ghost use Rattle.rows.specs.Rows.{rows};
 ghost use Rattle.book.specs.Records.{fields};
-ghost use Rattle.book.specs.Lent.{given, before, after};
+ghost use Rattle.book.specs.Lent.{given_sizing, before_sizing, after_sizing};
 ghost use Rattle.session.specs.Market.{market_of};
 ghost use Rattle.session.specs.Sound.{BookSound, Sound};
 ghost use Rattle.session.specs.Open.{open_done, printed, open_on, open_of};
@@ -35,14 +35,14 @@ pub fn open_core(
     lent: usize,
     records: &mut Records,
 ) -> Opened
-    requires book_sound { BookSound s (given sides prices sizes owners numbers) }
+    requires book_sound { BookSound s (given_sizing sides prices sizes owners numbers) }
     requires records_len { length records.old ≡ fields * rows }
-    ensures exact { (entries : List ℕ) → open_done result (after sides prices sizes owners numbers) entries records.new
-        ≡ open_of (market_of s (before sides prices sizes owners numbers) entries) lent records.old }
-    ensures sound { (entries : List ℕ) → Sound (market_of s (before sides prices sizes owners numbers) entries)
-        → Sound (market_of result.session (after sides prices sizes owners numbers) entries) }
+    ensures exact { (entries : List ℕ) → open_done result (after_sizing sides prices sizes owners numbers) entries records.new
+        ≡ open_of (market_of s (before_sizing sides prices sizes owners numbers) entries) lent records.old }
+    ensures sound { (entries : List ℕ) → Sound (market_of s (before_sizing sides prices sizes owners numbers) entries)
+        → Sound (market_of result.session (after_sizing sides prices sizes owners numbers) entries) }
     ensures values { (entries : List ℕ) → printed result.answer
-        ≡ printed (open_of (market_of s (before sides prices sizes owners numbers) entries) lent records.old).answer }
+        ≡ printed (open_of (market_of s (before_sizing sides prices sizes owners numbers) entries) lent records.old).answer }
 {
     let accepted = s.accepted;
     let series = series_of(s);

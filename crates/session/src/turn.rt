@@ -5,7 +5,7 @@ ghost use Rattle.rows.specs.Rows.{rows, no_number};
 ghost use Rattle.lanes.specs.Asked.{CanTake};
 ghost use Rattle.tally.specs.Tallies.{Countable};
 ghost use Rattle.dealing.specs.Floor.{next_after};
-ghost use Rattle.session.specs.Market.{market_lent, market_found, market_left};
+ghost use Rattle.session.specs.Market.{market_lent_turning, market_found_turning, market_left_turning};
 ghost use Rattle.session.specs.Sound.{TurnsHeld, Sound};
 ghost use Rattle.session.specs.Turn.{printed, turn_refusal, after_taking, answer_of, turned_by, turn_left, turn_of};
 
@@ -118,13 +118,13 @@ pub fn turn_core(
     lent: usize,
     records: &mut Records,
 ) -> Turned
-    requires sound_2 { Sound (market_lent s sides prices sizes owners numbers entries) }
+    requires sound_2 { Sound (market_lent_turning s sides prices sizes owners numbers entries) }
     requires records_len { length records.old ≡ fields * rows }
     ensures exact { turn_left result sides prices sizes owners numbers entries records
-        ≡ turn_of (market_found s sides prices sizes owners numbers entries) lent records.old }
-    ensures sound { Sound (market_left result.session sides prices sizes owners numbers entries) }
+        ≡ turn_of (market_found_turning s sides prices sizes owners numbers entries) lent records.old }
+    ensures sound { Sound (market_left_turning result.session sides prices sizes owners numbers entries) }
     ensures values { printed result.answer
-        ≡ printed (turn_of (market_found s sides prices sizes owners numbers entries) lent records.old).answer }
+        ≡ printed (turn_of (market_found_turning s sides prices sizes owners numbers entries) lent records.old).answer }
 {
     let code = refusal(s, lent);
     if 0 < code {

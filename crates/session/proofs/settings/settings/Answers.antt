@@ -1,0 +1,25 @@
+-- `session::settings::settings` meets its contract, by whether the number is a grid's and the values are in range.
+use mathlib.Core.Path.{refl, sym, ◌∙◌}
+use Rattle.session.specs.SettingsLaws.{settings_no_grid, settings_outside, settings_accepted}
+use Rattle.session.specs.SettingsSoundLaws.{settings_kept}
+use Rattle.session.proofs.settings.settings.Goals as goal
+
+pub returns-in_default : goal.returns-in_default
+returns-in_default c =
+    let kept = settings_kept _ _ _ refl (settings_no_grid _ _ c.of-chosen.ensures c.in_default.is) in
+    record { exact = kept.0; sound = kept.1 }
+
+pub returns-then-in_range : goal.returns-then-in_range
+returns-then-in_range c =
+    let kept =
+    settings_kept _ _ _ refl
+    (settings_accepted _ _ _ _ _ c.of-chosen.ensures c.in-One.is (sym c.in_range.ensures ∙ c.if-in_range.true) c.terms_of-terms.ensures
+    c.started-after.ensures) in
+    record { exact = kept.0; sound = kept.1 }
+
+pub returns-else-in_range : goal.returns-else-in_range
+returns-else-in_range c =
+    let kept =
+    settings_kept _ _ _ refl
+    (settings_outside _ _ _ c.of-chosen.ensures c.in-One.is (sym c.in_range.ensures ∙ c.if-in_range.false)) in
+    record { exact = kept.0; sound = kept.1 }
