@@ -1,9 +1,10 @@
 -- Laws about the window: what is not short, the loop that moves bytes to the front, and what a read behind them leaves.
 use Rattle.std.specs.Prelude.{◌≡◌, refl, Bool, true, false, ◌⊎◌, List, ◌++◌, ℕ, suc, ◌+◌, ◌-◌, ◌≤◌, ◌<◌, length, get_or, set, take, drop}
 use Rattle.std.proofs.Common.{sym, ap, ◌∙◌, inl, inr, arith, ltb-false, length-drop, length-take, take-append-drop, length-take-le, get_or-append-add, get_or-drop, take-add, take-take, drop_at}
-use borrow.Rule.Slice.PartMut.{mid_of, put_mid, same_len_mid, take_put}
+use borrow.Rule.Slice.PartMut.{mid_of, post_of, put_mid, same_len_mid, take_put}
 use Rattle.std.proofs.Math.Seq.{paste, paste-zero, paste-suc, length_paste_head}
 use Rattle.std.proofs.lemmas.List.Edits.{length-paste, take-paste}
+use Rattle.std.proofs.lemmas.List.{drop-take, take-append-le}
 use Rattle.window.specs.declared.Filled.{Filled}
 use Rattle.window.specs.Window.{is_short, Refilled}
 
@@ -117,3 +118,10 @@ read_behind {was} {window} {from} {to} {base} {r} h k f =
     ∙ drop_at (take from was) (take (to - from) (drop from was)) from (length-take-le from was (omega arith)) in
     sym (take-append-drop (to - from) (take r.to window))
     ∙ ap (λ (l : List ℕ). l ++ drop (to - from) (take r.to window)) (take-take (to - from) r.to window f.least ∙ f.kept ∙ sym unused)
+
+-- behind the bytes that were not used yet stand the first n that a read put there
+pub read_next : (mid ys : List ℕ) (left k n : ℕ) → left ≤ length mid → n ≤ length ys → drop left (take (left + n) (put_mid left k mid ys)) ≡ take n ys
+read_next mid ys left k n h few =
+    drop-take left n (put_mid left k mid ys)
+    ∙ ap (take n) (drop_at (take left mid) (ys ++ post_of left k mid) left (length-take-le left mid h))
+    ∙ take-append-le n ys (post_of left k mid) few

@@ -9,8 +9,9 @@ pub mod program;
 mod refusal;
 pub mod writing;
 
-ghost use Rattle.std.specs.Prelude.{◌≡◌, ◌+◌, ◌-◌, ◌≤◌, ◌<◌, length, drop};
+ghost use Rattle.std.specs.Prelude.{◌≡◌, ◌+◌, ◌-◌, ◌≤◌, ◌<◌, false, length, take, drop};
 ghost use Rattle.std.proofs.Math.Seq.{paste};
+ghost use Rattle.std.specs.Io.KnownBytes.{Consumes, IsAtEnd};
 ghost use Rattle.window.specs.Window.{is_short, Refilled};
 
 use std::io::{Error, ErrorKind, Read};
@@ -67,7 +68,11 @@ pub fn refill<R: Read>(
     requires from_le_to { from ≤ to }
     requires to_in_bounds { to ≤ length window.old }
     requires from_bound { base + from < 18446744073709551616 }
-    ensures { Refilled window.old from to base window.new result }
+    ensures refilled { Refilled window.old from to base window.new result }
+    ensures bytes { Consumes (R.remaining reader.old) (R.remaining reader.new)
+        (drop (to - from) (take result.to window.new)) }
+    ensures end { to - from < length window.old → result.more ≡ false → result.failed ≡ false →
+        IsAtEnd (R.remaining reader.new) }
 {
     let left = to - from;
     let first = base + from as u64;

@@ -1,5 +1,6 @@
 // Bytes written to a file until all of them are taken.
-ghost use Rattle.std.specs.Prelude.{◌≡◌, true, ◌<◌, length};
+ghost use Rattle.std.specs.Prelude.{◌≡◌, true, false, ◌-◌, ◌≤◌, ◌<◌, length, take, drop};
+ghost use Rattle.std.specs.Io.KnownBytes.{Appends};
 ghost use Rattle.window.specs.Writing.{Wrote};
 
 use crate::interrupted;
@@ -21,7 +22,10 @@ struct Written {
 // One write of the bytes from a place on. One that takes none has failed, unless a signal interrupted it.
 fn write_some<W: Write>(writer: &mut W, bytes: &[u8], from: usize, borne: u64) -> Written
     requires { from < length bytes.now }
-    ensures { Wrote (length bytes.now) from borne result }
+    ensures wrote { Wrote (length bytes.now) from borne result }
+    ensures bytes { result.failed ≡ false → Appends (W.contents writer.old) (W.contents writer.new)
+        (take (result.to - from) (drop from bytes.now)) }
+    ensures onward { from ≤ result.to }
 {
     let got = writer.write(&bytes[from..]);
     match got {
@@ -50,7 +54,8 @@ fn write_some<W: Write>(writer: &mut W, bytes: &[u8], from: usize, borne: u64) -
 // Writes the bytes, and answers whether the file took all of them; where it did not, it may have taken some. What a
 // file takes no contract can say: the answer is known where there are no bytes.
 pub fn write_out<W: Write>(writer: &mut W, bytes: &[u8]) -> bool
-    ensures { length bytes.now ≡ 0 → result ≡ true }
+    ensures none { length bytes.now ≡ 0 → result ≡ true }
+    ensures bytes { result ≡ true → Appends (W.contents writer.old) (W.contents writer.new) bytes.now }
 {
     let mut at: usize = 0;
     let mut borne = INTERRUPTIONS;

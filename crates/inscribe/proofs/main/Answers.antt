@@ -14,7 +14,7 @@ refill-filled-requires-clause-from_le_to c = (fits_window c.loop-turns.invariant
 
 pub loop-turns-preserved-in-Read : goal.loop-turns-preserved-in-Read
 loop-turns-preserved-in-Read c =
-    turn_reads c.loop-turns.invariant c.inscribe-done.ensures (search rules) c.if-status-eq-GOING.true c.in-Read.is c.refill-filled.ensures c.loop-turns-test.true
+    turn_reads c.loop-turns.invariant c.inscribe-done.ensures (search rules) c.if-status-eq-GOING.true c.in-Read.is c.refill-filled.ensures.refilled c.loop-turns-test.true
     (goes_or_failed _ c.status_after-status.ensures)
 
 pub flush-status-requires : goal.flush-status-requires
