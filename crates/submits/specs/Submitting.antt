@@ -1,5 +1,5 @@
 -- The program's loop: each turn sends what is at hand, then reads the sheet, writes out what is written, or stops.
-use Rattle.std.specs.Prelude.{◌≡◌, Bool, false, ℕ, ◌+◌, ◌*◌, ◌-◌, ◌≤◌, eqb, length, take}
+use Rattle.std.specs.Prelude.{◌≡◌, Bool, false, ℕ, ◌+◌, ◌*◌, ◌≤◌, eqb, length, take}
 use mathlib.Core.List.{List, [], ◌++◌, flatten}
 use Rattle.units.specs.Tests.{pick}
 use Rattle.window.specs.Window.{window_long}
