@@ -1,5 +1,5 @@
 -- `window::program::status_of` meets its contract, by its test.
-use borrow.Author.Tests.{lt-ltb, le-ltb}
+use Rattle.std.proofs.Common.{lt-ltb, le-ltb}
 use Rattle.units.specs.Tests.{pick}
 use Rattle.window.specs.Program.{status_of}
 use Rattle.window.proofs.program.status_of.Goals as goal
