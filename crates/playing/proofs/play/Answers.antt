@@ -1,0 +1,32 @@
+-- `playing::play` meets its contract: what the loop has printed stands in the output, and what is left is a play of its
+-- own. The measure is what is left of the bytes at hand.
+use native.Mathlib.Omega.{arith}
+use Rattle.playing.specs.PlayingLaws.{playing_starts, playing_reads, playing_writes, playing_stops, playing_less, playing_goes_on}
+use Rattle.playing.proofs.play.Goals as goal
+
+pub loop-s-init : goal.loop-s-init
+loop-s-init c = playing_starts _ _ _ _ _ _ _ _ c.requires
+
+pub returns-then-is_short : goal.returns-then-is_short
+returns-then-is_short c = rw c.leave.ensures (playing_reads _ _ _ c.loop-s.invariant _ c.is_short.ensures c.if-is_short.true)
+
+pub returns-then-at-lt-LONGEST_EVENT : goal.returns-then-at-lt-LONGEST_EVENT
+returns-then-at-lt-LONGEST_EVENT c =
+    rw c.leave-then-at-lt-LONGEST_EVENT.ensures
+    (playing_writes _ _ _ c.loop-s.invariant c.is_short.ensures c.if-is_short.false _ c.if-at-lt-LONGEST_EVENT.true)
+
+pub returns-then-done-ne-GOING : goal.returns-then-done-ne-GOING
+returns-then-done-ne-GOING c =
+    rw c.leave-then-done-ne-GOING.ensures
+    (playing_stops _ _ _ c.loop-s.invariant c.is_short.ensures c.if-is_short.false c.if-at-lt-LONGEST_EVENT.false _ _ _ _
+    c.step-done.ensures c.if-done-ne-GOING.true)
+
+pub loop-s-smaller : goal.loop-s-smaller
+loop-s-smaller c =
+    playing_less _ _ _ c.loop-s.invariant c.is_short.ensures c.if-is_short.false c.if-at-lt-LONGEST_EVENT.false _ _ _ _
+    c.step-done.ensures c.if-done-ne-GOING.false
+
+pub loop-s-preserved : goal.loop-s-preserved
+loop-s-preserved c =
+    playing_goes_on _ _ _ c.loop-s.invariant c.is_short.ensures c.if-is_short.false c.if-at-lt-LONGEST_EVENT.false _ _ _ _
+    c.step-done.ensures c.if-done-ne-GOING.false (omega arith)
