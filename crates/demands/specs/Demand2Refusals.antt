@@ -176,7 +176,7 @@ module _ (m : Market) (lent : ℕ) (was : List ℕ) where
   -- however it is said that the book crosses
   module _ {crossing : Type 0} (says : (crosses m.book ≡ true) ↔ crossing) where
     open_reads : Reads (open_cases m lent) (open_rules m lent crossing)
-    open_reads = (refl, not_says _, (refl, (refl, less_says _ _, (refl, and_says says no_price_says, tt))))
+    open_reads = (refl, not_says _, (refl, Iff.rfl, (refl, less_says _ _, (refl, and_says says no_price_says, tt))))
 
     open_in_order : GivenInOrder (open_rules m lent crossing) (λ n. open_printed m lent was ≡ open_refused_by n) ((open_printed m lent was).code ≡ 0)
     unfolding way_refusal

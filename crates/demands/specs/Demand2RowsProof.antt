@@ -189,31 +189,43 @@ module _ (m : Market) (lent : ℕ) (was : List ℕ) where
   cancel_freed : (t number : ℕ) → Sound m → {d : TurnDone} → Outcome m lent was d → printed d.answer ≡ cancelled_as t number
       → RowFreed m.book t number d.market.book
   cancel_freed t number sound (refused h) x = absurd (omega (arith, ap disposed_of x))
-  cancel_freed t number sound (taken u s (of_cancel c (cancels row h))) x =
-      rw (← ap tenant_of x, ← ap number_of x) (row_freed (sound (TurnCases.served_set m lent u s)).ready.book u (head_entry m u).number _ ((found_says m.book u (head_entry m u).number m.session.next).there row h))
-  cancel_freed t number sound (taken u s (of_cancel c (no_such is above))) x = absurd (omega (arith, ap disposed_of x))
-  cancel_freed t number sound (taken u s (of_order c (turned_down h))) x = absurd (omega (arith, ap disposed_of x))
-  cancel_freed t number sound (taken u s (of_order c (rests n o))) x = absurd (omega (arith, ap disposed_of x))
-  cancel_freed t number sound (taken u s (of_order c (trades n o))) x = absurd (omega (arith, ap disposed_of x, disposed_less m u))
+  cancel_freed t number sound (taken u s o) x = by u s o x
+    where
+      by : (u : ℕ) → TurnCases.ServedAs m lent u → {d : TurnDone} → TurnCases.OutcomeOf m was u d → printed d.answer ≡ cancelled_as t number
+          → RowFreed m.book t number d.market.book
+      by u s (of_cancel c (cancels row h)) x =
+          rw (← ap tenant_of x, ← ap number_of x) (row_freed (sound (TurnCases.served_set m lent u s)).ready.book u (head_entry m u).number _ ((found_says m.book u (head_entry m u).number m.session.next).there row h))
+      by u s (of_cancel c (no_such is above)) x = absurd (omega (arith, ap disposed_of x))
+      by u s (of_order c (turned_down h)) x = absurd (omega (arith, ap disposed_of x))
+      by u s (of_order c (rests n o)) x = absurd (omega (arith, ap disposed_of x))
+      by u s (of_order c (trades n o)) x = absurd (omega (arith, ap disposed_of x, disposed_less m u))
 
   down_leaves : (t code : ℕ) → 0 < code → {d : TurnDone} → Outcome m lent was d → printed d.answer ≡ turned_down_by t code → d.market.book ≡ m.book
   down_leaves t code some (refused h) x = refl
-  down_leaves t code some (taken u s (of_cancel c (cancels row h))) x = absurd (omega (arith, ap code_of x))
-  down_leaves t code some (taken u s (of_cancel c (no_such is above))) x = refl
-  down_leaves t code some (taken u s (of_order c (turned_down h))) x = refl
-  down_leaves t code some (taken u s (of_order c (rests n o))) x = absurd (omega (arith, ap code_of x))
-  down_leaves t code some (taken u s (of_order c (trades n o))) x = absurd (omega (arith, ap code_of x))
+  down_leaves t code some (taken u s o) x = by u o x
+    where
+      by : (u : ℕ) {d : TurnDone} → TurnCases.OutcomeOf m was u d → printed d.answer ≡ turned_down_by t code → d.market.book ≡ m.book
+      by u (of_cancel c (cancels row h)) x = absurd (omega (arith, ap code_of x))
+      by u (of_cancel c (no_such is above)) x = refl
+      by u (of_order c (turned_down h)) x = refl
+      by u (of_order c (rests n o)) x = absurd (omega (arith, ap code_of x))
+      by u (of_order c (trades n o)) x = absurd (omega (arith, ap code_of x))
 
   -- a turn that accepts no order
   unless_order : {d : TurnDone} → Outcome m lent was d
       → ((t number filled disposition : ℕ) → OrderAccepted (printed d.answer) t number filled disposition → ⊥)
       → (d.market.session.next ≡ m.session.next) × (d.records ≡ was)
   unless_order (refused h) f = (refl, refl)
-  unless_order (taken u s (of_cancel c (cancels row h))) f = (refl, refl)
-  unless_order (taken u s (of_cancel c (no_such is above))) f = (refl, refl)
-  unless_order (taken u s (of_order c (turned_down h))) f = (refl, refl)
-  unless_order (taken u s (of_order c (rests n o))) f = absurd (f _ _ _ _ (record { values = refl; no_cancel = omega arith }))
-  unless_order (taken u s (of_order c (trades n o))) f = absurd (f _ _ _ _ (record { values = refl; no_cancel = disposed_less m u }))
+  unless_order (taken u s o) f = by u o f
+    where
+      by : (u : ℕ) {d : TurnDone} → TurnCases.OutcomeOf m was u d
+          → ((t number filled disposition : ℕ) → OrderAccepted (printed d.answer) t number filled disposition → ⊥)
+          → (d.market.session.next ≡ m.session.next) × (d.records ≡ was)
+      by u (of_cancel c (cancels row h)) f = (refl, refl)
+      by u (of_cancel c (no_such is above)) f = (refl, refl)
+      by u (of_order c (turned_down h)) f = (refl, refl)
+      by u (of_order c (rests n o)) f = absurd (f _ _ _ _ (record { values = refl; no_cancel = omega arith }))
+      by u (of_order c (trades n o)) f = absurd (f _ _ _ _ (record { values = refl; no_cancel = disposed_less m u }))
 
   -- ---- an opening with volume 0
   matched_none : (p : ℕ) → SoundBook m.book m.session.next → volume m.book p ≡ 0 → WellLent m was → opening_written m.book p was ≡ was

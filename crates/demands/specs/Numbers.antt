@@ -1,6 +1,6 @@
 -- What it means that a number is given out, said of the calls and their answers: the numbers below the next one are
--- those that turns since the last accepted settings answered as accepted, and they are 1, 2, 3 and so on. So a cancel is
--- turned down by 22 exactly where no such turn gave its number.
+-- those that turns since the last accepted settings answered as accepted, and they are 1, 2, 3 and so on. So a cancel
+-- is turned down by 22 exactly where no such turn gave its number.
 use Rattle.std.specs.Prelude.{◌≡◌, ◌↔◌, ◌⊎◌, true, List, [], ◌∷◌, ◌++◌, ℕ, ◌+◌, ◌≤◌, ◌<◌, length}
 use Rattle.units.specs.Places.{table}
 use Rattle.entry.specs.Entry.{is_cancel}

@@ -9,7 +9,7 @@ use contract.Lifetimes
 use contract.Monad
 use contract.Notation
 use types.Logic.{Logic}
-use Rattle.std.specs.Borrow.{Bor}
+use Rattle.std.specs.Borrow.{Bor, MutBor}
 use denote.Triple.Clauses
 use seplogic.Ra.Ura
 use prog.Memory
@@ -176,22 +176,30 @@ same p q = p ∙ sym q
 
 -- ---- memory lent
 
--- a list of numbers lent, and of parameters in a row what the first is left with
+-- a list of numbers lent to be changed, and one lent to be read alone; and of parameters in a row what the first is
+-- left with
 abbrev Lent : Type 0
-Lent = Bor (List ℕ)
+Lent = MutBor (List ℕ)
+
+abbrev Read : Type 0
+Read = Bor (List ℕ)
 
 abbrev pub first : {X : Type 0} → Lent × X → List (List ℕ)
 first e = e.0.now ∷ []
 
--- the columns of a book, before others; and the book of five parameters in a row
+-- the columns of a book, before others; and the book of five parameters in a row, with all of them lent to be changed,
+-- or the sizes alone
 abbrev pub columns : Book → List (List ℕ) → List (List ℕ)
 columns b more = b.sides ∷ b.prices ∷ b.sizes ∷ b.owners ∷ b.numbers ∷ more
 
 abbrev pub book_at : {X : Type 0} → Lent × (Lent × (Lent × (Lent × (Lent × X)))) → Book
 book_at e = book_of e.0.now e.1.0.now e.1.1.0.now e.1.1.1.0.now e.1.1.1.1.0.now
 
+abbrev pub book_at_sizing : {X : Type 0} → Read × (Read × (Lent × (Read × (Read × X)))) → Book
+book_at_sizing e = book_of e.0.now e.1.0.now e.1.1.0.now e.1.1.1.0.now e.1.1.1.1.0.now
+
 -- sizes, owners, numbers, what each row traded, and the records, in a row: those of them that a match writes
-abbrev pub match_lent : {X : Type 0} → Lent × (Lent × (Lent × (Lent × (Lent × X)))) → List (List ℕ)
+abbrev pub match_lent : {X : Type 0} → Lent × (Read × (Read × (Lent × (Lent × X)))) → List (List ℕ)
 match_lent e = e.0.now ∷ e.1.1.1.0.now ∷ e.1.1.1.1.0.now ∷ []
 
 -- the columns of a market, its lanes' entries and the output, in a row
@@ -510,8 +518,8 @@ one_tally_count κs a z z' e e' = same
 pub one_tally_turns_in_all : OneResult tally_turns_in_all.Post
 one_tally_turns_in_all κs a z z' e e' = same
 
--- `add` stands outside the covered forms, so its promise is read from its contract's clauses: what it says is that the
--- tally is left as `AddedTo` has it
+-- what is lent to `add` is a tally and no list of numbers, so its promise is read from its contract's clauses: what it
+-- says is that the tally is left as `AddedTo` has it
 abbrev pub AddedTo : Tally → ℕ → ℕ → ℕ → Tally → Type 0
 AddedTo entry turns bought sold exit = exit ≡ plus entry turns bought sold
 
@@ -666,8 +674,9 @@ one_session_tally_of κs a z z' e e' = same
 pub one_fills_turn_fills : OneResult fills_turn_fills.Post
 one_fills_turn_fills κs a z z' e e' = same
 
--- the calls with a row of fills stand outside the covered forms, so their promises are read from their contracts'
--- clauses: what they say is that the market, the row and the answer are left as `TurnAs` and `OpenAs` have them
+-- the calls with a row of fills are lent that row, or answer one, and it is no list of numbers, so their promises are
+-- read from their contracts' clauses: what they say is that the market, the row and the answer are left as `TurnAs` and
+-- `OpenAs` have them
 abbrev pub TurnAs : Market → List Fill → Turned → Book → List ℕ → List Fill → Type 0
 TurnAs m row r b entries left = turn_stored r b entries left ≡ turn_with m row
 
@@ -692,13 +701,13 @@ pub fills_open_promise : {M : Type 1} {𝓤 : Ura.Ura M} (𝓛 : Logic 𝓤) (me
     (κs : Lifetimes.Lfts 6) (a : World.ArgsD fills_open.signature κs) (z : World.ResD fills_open.signature κs) (e : Clauses.AtExit fills_open.ended κs)
     → (fills_open.clauses 𝓛 mem run κs a).ensures tt z e
     ≡ (Notation.connectives 𝓤).◌∗◌
-    ((Notation.connectives 𝓤).⌜◌⌝ (OpenAs a.0 (book_at a.1) a.1.1.1.1.1.1.0.now z (book_at e.1) e.1.1.1.1.1.1.0.now))
+    ((Notation.connectives 𝓤).⌜◌⌝ (OpenAs a.0 (book_at_sizing a.1) a.1.1.1.1.1.1.0.now z (book_at_sizing e.1) e.1.1.1.1.1.1.0.now))
     ((Notation.connectives 𝓤).◌∗◌
     ((Notation.connectives 𝓤).⌜◌⌝ (
-    (entries : List ℕ) → Sound (market_of a.0 (book_at a.1) entries) → Sound (market_of z.session (book_at e.1) entries)))
+    (entries : List ℕ) → Sound (market_of a.0 (book_at_sizing a.1) entries) → Sound (market_of z.session (book_at_sizing e.1) entries)))
     ((Notation.connectives 𝓤).⌜◌⌝ (
     (entries : List ℕ) → printed_open z.answer
-    ≡ printed_open (open_with (market_of a.0 (book_at a.1) entries) a.1.1.1.1.1.1.0.now).answer)))
+    ≡ printed_open (open_with (market_of a.0 (book_at_sizing a.1) entries) a.1.1.1.1.1.1.0.now).answer)))
 fills_open_promise 𝓛 mem run κs a z e = refl
 
 -- with a row of the call's own, which is empty
@@ -719,12 +728,12 @@ pub fills_open_on_row_promise : {M : Type 1} {𝓤 : Ura.Ura M} (𝓛 : Logic �
     (κs : Lifetimes.Lfts 5) (a : World.ArgsD fills_open_on_row.signature κs) (z : World.ResD fills_open_on_row.signature κs) (e : Clauses.AtExit fills_open_on_row.ended κs)
     → (fills_open_on_row.clauses 𝓛 mem run κs a).ensures tt z e
     ≡ (Notation.connectives 𝓤).◌∗◌
-    ((Notation.connectives 𝓤).⌜◌⌝ (OpenAs a.0 (book_at a.1) empty_row z.opened (book_at e.1) z.row))
+    ((Notation.connectives 𝓤).⌜◌⌝ (OpenAs a.0 (book_at_sizing a.1) empty_row z.opened (book_at_sizing e.1) z.row))
     ((Notation.connectives 𝓤).◌∗◌
     ((Notation.connectives 𝓤).⌜◌⌝ (
-    (entries : List ℕ) → Sound (market_of a.0 (book_at a.1) entries) → Sound (market_of z.opened.session (book_at e.1) entries)))
+    (entries : List ℕ) → Sound (market_of a.0 (book_at_sizing a.1) entries) → Sound (market_of z.opened.session (book_at_sizing e.1) entries)))
     ((Notation.connectives 𝓤).⌜◌⌝ (
-    (entries : List ℕ) → printed_open z.opened.answer ≡ printed_open (open_with (market_of a.0 (book_at a.1) entries) empty_row).answer)))
+    (entries : List ℕ) → printed_open z.opened.answer ≡ printed_open (open_with (market_of a.0 (book_at_sizing a.1) entries) empty_row).answer)))
 fills_open_on_row_promise 𝓛 mem run κs a z e = refl
 
 -- each of these equations is met by one outcome

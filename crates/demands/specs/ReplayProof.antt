@@ -1,7 +1,7 @@
 -- Replay's step is the run's step, by the definitions; and what an opening prints as gone are the cancelled orders,
 -- since what is told from the books before and after is what the opening cancels (`gone_is_cancelled`), listed whole
 -- and rising.
-use Rattle.std.specs.Prelude.{◌≡◌, refl, ◌↔◌, ◌⊎◌, Bool, true, false, ◌&&◌, List, [], ◌∷◌, ◌++◌, ℕ, zero, suc, ◌≤◌, ◌<◌, length}
+use Rattle.std.specs.Prelude.{◌≡◌, refl, ◌↔◌, ◌⊎◌, Bool, true, false, List, [], ◌∷◌, ◌++◌, ℕ, zero, suc, ◌≤◌, ◌<◌, length}
 use Rattle.std.proofs.Common.{sym, ◌∙◌, append-nil, arith}
 use Rattle.std.proofs.Math.Path.{ap, subst}
 use Rattle.std.proofs.Math.Logic.{⊎_elim}
@@ -34,7 +34,7 @@ use Rattle.replay.specs.Replay.{settings_printed, away_printed, submit_printed, 
 use Rattle.replay.specs.Output.{lines_of, last_line, printed_on, new_market, output_of}
 use Rattle.demands.specs.Runs.{step}
 use Rattle.demands.specs.OpenCases.{Outcome, refused, quiet, opens, open_set, outcome}
-use Rattle.demands.specs.Demand2.{open_printed, once_filled, Cancelled}
+use Rattle.demands.specs.Demand2.{once_filled, Cancelled}
 use Rattle.demands.specs.Demand2Opening.{goes_says}
 use Rattle.demands.specs.Replay.{call_of, call_lines, calls_of, run_lines, Rises, GoneTold, ReplayRight}
 
