@@ -7,8 +7,8 @@ use crate::refusal::{LONGEST_BEHIND, refusal_line};
 use crate::writing::write_out;
 use std::env::FillError;
 use std::fs::File;
-use std::io::{Error, Read};
-use std::rt::{Env, Stdin};
+use std::io::{Error, ErrorKind, Read, Write};
+use std::rt::{Env, Stdin, Stdout};
 
 // Where the status goes.
 const STATUS_FILENO: i32 = 3;
@@ -24,6 +24,9 @@ pub const REFUSED: u8 = b'1';
 
 // A file could not be opened, a read or a write failed.
 pub const FAILED: u8 = b'2';
+
+// The reader of standard output has left, which is no failure to speak of; it is told before the failed write is.
+const LEFT: u8 = b'3';
 
 // More turns of a program's loop than any run takes: each works on what is at hand, then reads or writes once.
 pub const TURNS: u64 = 140737488355328;
@@ -52,6 +55,29 @@ impl Read for Source {
             Source::Input(input) => input.read(buf),
             Source::Opened(file) => file.read(buf),
         }
+    }
+}
+
+// Standard output, and whether a write found that its reader has left.
+#[derive(Drop)]
+struct Shown {
+    output: Stdout,
+    left: bool,
+}
+
+impl Write for Shown {
+    fn write(&mut self, buf: &[u8]) -> std::io::Result<usize> {
+        let got = self.output.write(buf);
+        if let Err(error) = &got {
+            if error.kind() == ErrorKind::BrokenPipe {
+                self.left = true;
+            }
+        }
+        got
+    }
+
+    fn flush(&mut self) -> std::io::Result<()> {
+        self.output.flush()
     }
 }
 
@@ -98,8 +124,15 @@ pub fn flush(rt: &HostRuntime, out: &[u8], at: usize) -> u8
     requires { at ≤ length out.now }
     ensures { Stopped result → ⊥ }
 {
-    let mut output = rt.stdout();
-    status_after(!write_out(&mut output, &out[..at]))
+    let mut shown = Shown {
+        output: rt.stdout(),
+        left: false,
+    };
+    let done = write_out(&mut shown, &out[..at]);
+    if shown.left {
+        tell(LEFT);
+    }
+    status_after(!done)
 }
 
 // The text of an error without the number that stands behind it.
