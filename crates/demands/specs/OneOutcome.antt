@@ -64,6 +64,7 @@ use Rattle.units.proofs.grid.Grid.lowest.Reads as units_lowest
 use Rattle.units.proofs.grid.Grid.step.Reads as units_step
 use Rattle.units.proofs.grid.Grid.on.Reads as units_on
 use Rattle.units.proofs.grid.Grid.at_or_below.Reads as units_at_or_below
+use Rattle.units.proofs.grid.Grid.at_or_above.Reads as units_at_or_above
 use Rattle.numeral.proofs.read.Reads as number_read
 use Rattle.numeral.proofs.refusal.Reads as number_refusal
 use Rattle.numeral.proofs.writing.length.Reads as number_length
@@ -269,6 +270,9 @@ one_units_on κs a z z' e e' = same
 
 pub one_units_at_or_below : OneResult units_at_or_below.Post
 one_units_at_or_below κs a z z' e e' = same
+
+pub one_units_at_or_above : OneResult units_at_or_above.Post
+one_units_at_or_above κs a z z' e e' = same
 
 -- ---- number
 
@@ -797,8 +801,8 @@ one_replay_tally_lines κs a z z' e e' = laid
 
 -- ---- window
 
--- `refill`, `write_out`, `flush` and `opened` have none: what a read gives, whether a write is taken and which file is
--- opened come from the file
+-- `refill`, `write_out`, `flush`, `opened` and the reads of a `Source` have none: what a read gives, whether a write is
+-- taken and which file is opened come from the file
 pub one_window_is_short : OneResult window_is_short.Post
 one_window_is_short κs a z z' e e' = same
 

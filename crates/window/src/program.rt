@@ -1,5 +1,5 @@
-// The ends of a program: the file that it reads, what it writes out, and how it tells that it has ended. A program has no
-// exit status; it writes one byte to file descriptor 3, which the command above makes its status.
+// The ends of a program: the file that it reads, what it writes out, and how it tells that it has ended. It writes one
+// byte to file descriptor 3, which the command above makes its status.
 ghost use Rattle.std.specs.Prelude.{◌≡◌, ◌≤◌, length};
 ghost use Rattle.window.specs.Program.{Stopped, status_after, status_of, word_most};
 

@@ -51,8 +51,8 @@ fn write_some<W: Write>(writer: &mut W, bytes: &[u8], from: usize, borne: u64) -
     }
 }
 
-// Writes the bytes, and answers whether the file took all of them; where it did not, it may have taken some. What a
-// file takes no contract can say: the answer is known where there are no bytes.
+// Writes the bytes, and answers whether the writer took all of them; where it did not, it may have taken some. Whether
+// it takes them no contract can say, but where there are no bytes.
 pub fn write_out<W: Write>(writer: &mut W, bytes: &[u8]) -> bool
     ensures none { length bytes.now ≡ 0 → result ≡ true }
     ensures bytes { result ≡ true → Appends (W.contents writer.old) (W.contents writer.new) bytes.now }
