@@ -1,6 +1,6 @@
--- `book::resting::rest` meets its contract: it stores at the first free row.
+-- `Book::rest` meets its contract: it stores at the first free row.
 use Rattle.book.specs.BookLaws.{rested_there, rested_full}
-use Rattle.book.proofs.resting.rest.Goals as goal
+use Rattle.book.proofs.Book.rest.Goals as goal
 
 pub returns-then-row-lt-ROWS : goal.returns-then-row-lt-ROWS
 returns-then-row-lt-ROWS c = rested_there _ _ c.free_row-row.ensures _ _ _ _ _
