@@ -1,16 +1,15 @@
 // An open: which way it goes, and the opening of a book at a price, with the tallies.
 ghost use Rattle.std.specs.Prelude.{◌≡◌};
-ghost use Rattle.book.specs.Lent.{given_sizing, before_sizing, after_sizing, quoting};
+ghost use Rattle.book.specs.Lent.{book_in};
 ghost use Rattle.opening.specs.Opening.{after_opening, opening_written};
 ghost use Rattle.dealing.specs.Open.{CanOpen, counted_of, choice_in, way_of};
 
 use crate::Series;
 use crate::credit::credit;
-use book::Records;
-use book::quotes::crosses;
+use book::{Book, Records};
 use opening::matching::open_at;
 use price::{Choice, Sources, choose};
-use rows::{Column, ROWS};
+use rows::ROWS;
 use tally::Tallies;
 use units::{Cents, Contracts};
 
@@ -42,15 +41,8 @@ fn choice(s: Series) -> Choice
 }
 
 // The refusals in the order of checking; a price is asked for only where the book crosses.
-pub fn which_way(
-    accepted: bool,
-    s: Series,
-    lent: usize,
-    sides: &Column,
-    prices: &Column,
-    sizes: &Column,
-) -> Way
-    ensures { quoting sides prices sizes (λ b. result ≡ way_of accepted s b lent) }
+pub fn which_way(accepted: bool, s: Series, lent: usize, book: &Book) -> Way
+    ensures { result ≡ way_of accepted s (book_in book.now) lent }
 {
     if accepted {
         let opened = s.opened;
@@ -60,7 +52,7 @@ pub fn which_way(
         if lent < ROWS {
             return Way::Refused(6);
         }
-        if crosses(sides, prices, sizes) {
+        if book.crosses() {
             let first = choice(s);
             match first {
                 Choice::At(price) => Way::At(price),
@@ -84,33 +76,15 @@ pub struct Counted {
 
 // The book trades at the price and is rid of what would lock or cross it, and each row's contracts are counted for its
 // owner.
-pub fn open_book(
-    tallies: Tallies,
-    price: Cents,
-    sides: &Column,
-    prices: &Column,
-    sizes: &mut Column,
-    owners: &Column,
-    numbers: &Column,
-    records: &mut Records,
-) -> Counted
-    requires { CanOpen tallies (given_sizing sides prices sizes owners numbers) records.old }
-    ensures numbers_value { after_sizing sides prices sizes owners numbers ≡ after_opening (before_sizing sides prices sizes owners numbers) price.0 }
-    ensures records_after { records.new ≡ opening_written (before_sizing sides prices sizes owners numbers) price.0 records.old }
-    ensures value { result ≡ counted_of tallies (before_sizing sides prices sizes owners numbers) price.0 }
+pub fn open_book(tallies: Tallies, price: Cents, book: &mut Book, records: &mut Records) -> Counted
+    requires { CanOpen tallies (book_in book.old) records.old }
+    ensures numbers_value { book_in book.new ≡ after_opening (book_in book.old) price.0 }
+    ensures records_after { records.new ≡ opening_written (book_in book.old) price.0 records.old }
+    ensures value { result ≡ counted_of tallies (book_in book.old) price.0 }
 {
     let mut shared = [0u32; 216];
-    let done = open_at(
-        price,
-        sides,
-        prices,
-        sizes,
-        owners,
-        numbers,
-        &mut shared,
-        records,
-    );
-    let counted = credit(tallies, sides, owners, &shared);
+    let done = open_at(book, price, &mut shared, records);
+    let counted = credit(tallies, &book.sides, &book.owners, &shared);
     let volume = done.volume;
     Counted {
         tallies: counted,

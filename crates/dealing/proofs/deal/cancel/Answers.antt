@@ -7,18 +7,18 @@ use Rattle.dealing.proofs.deal.cancel.Goals as goal
 
 pub returns-in-Rests : goal.returns-in-Rests
 returns-in-Rests c =
-    λ sides prices s was.
-    cancelled_is (floor_of s _ _ (book_of sides prices _ _ _)) _ was _ _ _ _ (c.find-found.ensures sides prices) c.in-Rests.is
-    (c.free.ensures sides prices _ _)
+    λ s was.
+    cancelled_is (floor_of s _ _ _) _ was _ _ _ _ c.find-found.ensures c.in-Rests.is
+    c.free.ensures
 
 pub returns-in-GivenOut : goal.returns-in-GivenOut
 returns-in-GivenOut c =
-    λ sides prices s was.
+    λ s was.
     c.turned_down.ensures s 0 _ was
-    ∙ by_found_lem (floor_of s _ _ (book_of sides prices _ _ _)) _ was _ _ _ (c.find-found.ensures sides prices) c.in-GivenOut.is
+    ∙ by_found_lem (floor_of s _ _ _) _ was _ _ _ c.find-found.ensures c.in-GivenOut.is
 
 pub returns-in-NeverGiven : goal.returns-in-NeverGiven
 returns-in-NeverGiven c =
-    λ sides prices s was.
+    λ s was.
     c.turned_down-in-NeverGiven.ensures s 0 _ was
-    ∙ by_found_lem (floor_of s _ _ (book_of sides prices _ _ _)) _ was _ _ _ (c.find-found.ensures sides prices) c.in-NeverGiven.is
+    ∙ by_found_lem (floor_of s _ _ _) _ was _ _ _ c.find-found.ensures c.in-NeverGiven.is
