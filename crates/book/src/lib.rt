@@ -18,6 +18,7 @@ use rows::Column;
 use units::{Cents, Contracts};
 
 // The book: row i is what stands at place i of each column. It is lent to whatever reads or changes it.
+#[derive(Drop)]
 pub struct Book {
     pub sides: Column,
     pub prices: Column,

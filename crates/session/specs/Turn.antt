@@ -1,11 +1,9 @@
 -- The call turn.
 use Rattle.std.specs.Prelude.{Bool, true, false, List, [], ◌∷◌, ℕ, leb, ltb}
-use Rattle.units.specs.Lent.{Lent, LentMut}
 use Rattle.units.specs.Tests.{pick}
 use Rattle.units.specs.Cases.{Case, ◌when◌, first_of}
 use Rattle.rows.specs.Rows.{rows}
 use Rattle.book.specs.Book.{Book}
-use Rattle.book.specs.Lent.{after}
 use Rattle.entry.specs.declared.Entry.{Entry}
 use Rattle.entry.specs.declared.Quotes.{Quotes}
 use Rattle.checks.specs.declared.Standing.{Standing}
@@ -33,11 +31,6 @@ TurnDone = Done TurnAnswer
 -- what a turn answered, beside the book, the entries and the fill records that it left
 abbrev pub turn_done : Turned → Book → List ℕ → List ℕ → TurnDone
 turn_done r book entries records = record { market = market_of r.session book entries; answer = r.answer; records = records }
-
--- the same of lent columns, entries and fill records
-abbrev pub turn_left : Turned → LentMut → LentMut → LentMut → LentMut → LentMut → Lent → LentMut → TurnDone
-turn_left r sides prices sizes owners numbers entries records =
-    turn_done r (after sides prices sizes owners numbers) entries.exit.now records.exit.now
 
 -- the paper's values of a taken turn
 pub record Line : Type 0 where

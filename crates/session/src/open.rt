@@ -2,15 +2,14 @@
 ghost use Rattle.std.specs.Prelude.{◌≡◌, List, ℕ, ◌*◌, length};
 ghost use Rattle.rows.specs.Rows.{rows};
 ghost use Rattle.book.specs.Records.{fields};
-ghost use Rattle.book.specs.Lent.{given_sizing, before_sizing, after_sizing};
-ghost use Rattle.session.specs.Market.{market_of};
+ghost use Rattle.book.specs.Lent.{book_in};
+ghost use Rattle.session.specs.Market.{market_in};
 ghost use Rattle.session.specs.Sound.{BookSound, Sound};
 ghost use Rattle.session.specs.Open.{open_done, printed, open_on, open_of};
 
 use crate::{OpenAnswer, Opened, Session, series_of};
-use book::Records;
+use book::{Book, Records};
 use dealing::open::{Way, open_book, which_way};
-use rows::Column;
 use tally::Tallies;
 use units::{Cents, Contracts};
 
@@ -25,28 +24,19 @@ fn open_on(s: Session, tallies: Tallies) -> Session
 }
 
 // Opens the series, or refuses.
-pub fn open_core(
-    s: Session,
-    sides: &Column,
-    prices: &Column,
-    sizes: &mut Column,
-    owners: &Column,
-    numbers: &Column,
-    lent: usize,
-    records: &mut Records,
-) -> Opened
-    requires book_sound { BookSound s (given_sizing sides prices sizes owners numbers) }
+pub fn open_core(s: Session, book: &mut Book, lent: usize, records: &mut Records) -> Opened
+    requires book_sound { BookSound s (book_in book.old) }
     requires records_len { length records.old ≡ fields * rows }
-    ensures exact { (entries : List ℕ) → open_done result (after_sizing sides prices sizes owners numbers) entries records.new
-        ≡ open_of (market_of s (before_sizing sides prices sizes owners numbers) entries) lent records.old }
-    ensures sound { (entries : List ℕ) → Sound (market_of s (before_sizing sides prices sizes owners numbers) entries)
-        → Sound (market_of result.session (after_sizing sides prices sizes owners numbers) entries) }
+    ensures exact { (entries : List ℕ) → open_done result (book_in book.new) entries records.new
+        ≡ open_of (market_in s book.old entries) lent records.old }
+    ensures sound { (entries : List ℕ) → Sound (market_in s book.old entries)
+        → Sound (market_in result.session book.new entries) }
     ensures values { (entries : List ℕ) → printed result.answer
-        ≡ printed (open_of (market_of s (before_sizing sides prices sizes owners numbers) entries) lent records.old).answer }
+        ≡ printed (open_of (market_in s book.old entries) lent records.old).answer }
 {
     let accepted = s.accepted;
     let series = series_of(s);
-    let way = which_way(accepted, series, lent, sides, prices, sizes);
+    let way = which_way(accepted, series, lent, book);
     match way {
         Way::Refused(code) => Opened {
             session: s,
@@ -61,9 +51,7 @@ pub fn open_core(
         }
         Way::At(price) => {
             let tallies = s.tallies;
-            let done = open_book(
-                tallies, price, sides, prices, sizes, owners, numbers, records,
-            );
+            let done = open_book(tallies, price, book, records);
             let counted = done.tallies;
             let volume = done.volume;
             Opened {

@@ -1,15 +1,15 @@
 // The call settings.
 ghost use Rattle.std.specs.Prelude.{◌≡◌};
-ghost use Rattle.book.specs.Lent.{after};
-ghost use Rattle.session.specs.Market.{market_found, market_left, answered_of};
+ghost use Rattle.book.specs.Lent.{book_in};
+ghost use Rattle.session.specs.Market.{market_in, answered_of};
 ghost use Rattle.session.specs.Settings.{started_on, settings_of};
 ghost use Rattle.session.specs.Sound.{Sound};
 
 use crate::{Answered, Session};
+use book::Book;
 use entry::ranges::{in_range, terms_of};
 use entry::{Away, Settings, Terms};
 use lanes::{ALL_ENTRIES, Entries, Lanes};
-use rows::Column;
 use units::Cents;
 use units::grid::{Chosen, Grid};
 
@@ -35,20 +35,11 @@ pub(crate) fn started(accepted: bool, terms: Terms) -> Session
 }
 
 // Accepted settings start all of the market anew.
-pub fn settings(
-    s: Session,
-    given: Settings,
-    sides: &mut Column,
-    prices: &mut Column,
-    sizes: &mut Column,
-    owners: &mut Column,
-    numbers: &mut Column,
-    entries: &mut Entries,
-) -> Answered
-    ensures exact { answered_of result (after sides prices sizes owners numbers) entries.new
-        ≡ settings_of (market_found s sides prices sizes owners numbers entries) given }
-    ensures sound { Sound (market_found s sides prices sizes owners numbers entries)
-        → Sound (market_left result.session sides prices sizes owners numbers entries) }
+pub fn settings(s: Session, given: Settings, book: &mut Book, entries: &mut Entries) -> Answered
+    ensures exact { answered_of result (book_in book.new) entries.new
+        ≡ settings_of (market_in s book.old entries.old) given }
+    ensures sound { Sound (market_in s book.old entries.old)
+        → Sound (market_in result.session book.new entries.new) }
 {
     let chosen = Grid::of(given.grid);
     let Chosen::One(grid) = chosen else {
@@ -58,11 +49,7 @@ pub fn settings(
         };
     };
     if in_range(given) {
-        *sides = [0u32; 216];
-        *prices = [0u32; 216];
-        *sizes = [0u32; 216];
-        *owners = [0u32; 216];
-        *numbers = [0u32; 216];
+        *book = Book::new();
         *entries = [0u32; ALL_ENTRIES];
         let terms = terms_of(given, grid);
         let after = started(true, terms);

@@ -1,22 +1,23 @@
 // The call turn.
 ghost use Rattle.std.specs.Prelude.{◌≡◌, ◌*◌, ◌≤◌, length};
 ghost use Rattle.book.specs.Records.{fields};
+ghost use Rattle.book.specs.Lent.{book_in};
 ghost use Rattle.rows.specs.Rows.{rows, no_number};
 ghost use Rattle.lanes.specs.Asked.{CanTake};
 ghost use Rattle.tally.specs.Tallies.{Countable};
 ghost use Rattle.dealing.specs.Floor.{next_after};
-ghost use Rattle.session.specs.Market.{market_lent_turning, market_found_turning, market_left_turning};
+ghost use Rattle.session.specs.Market.{market_in};
 ghost use Rattle.session.specs.Sound.{TurnsHeld, Sound};
-ghost use Rattle.session.specs.Turn.{printed, turn_refusal, after_taking, answer_of, turned_by, turn_left, turn_of};
+ghost use Rattle.session.specs.Turn.{printed, turn_refusal, after_taking, answer_of, turned_by, turn_done, turn_of};
 
 use crate::{Session, TurnAnswer, Turned, series_of};
-use book::Records;
+use book::{Book, Records};
 use dealing::deal::deal;
 use dealing::{Came, Dealt};
 use lanes::ring::{head, taken};
 use lanes::rotation::served;
 use lanes::{Entries, Served};
-use rows::{Column, ROWS};
+use rows::ROWS;
 use tally::{count, turns_in_all};
 
 // From this many turns in all on, no turn is taken.
@@ -109,22 +110,18 @@ fn answered(s: Session, t: usize, done: Dealt) -> Turned
 // caller has room for.
 pub fn turn_core(
     s: Session,
-    sides: &mut Column,
-    prices: &mut Column,
-    sizes: &mut Column,
-    owners: &mut Column,
-    numbers: &mut Column,
+    book: &mut Book,
     entries: &Entries,
     lent: usize,
     records: &mut Records,
 ) -> Turned
-    requires sound_2 { Sound (market_lent_turning s sides prices sizes owners numbers entries) }
+    requires sound_2 { Sound (market_in s book.old entries.now) }
     requires records_len { length records.old ≡ fields * rows }
-    ensures exact { turn_left result sides prices sizes owners numbers entries records
-        ≡ turn_of (market_found_turning s sides prices sizes owners numbers entries) lent records.old }
-    ensures sound { Sound (market_left_turning result.session sides prices sizes owners numbers entries) }
+    ensures exact { turn_done result (book_in book.new) entries.now records.new
+        ≡ turn_of (market_in s book.old entries.now) lent records.old }
+    ensures sound { Sound (market_in result.session book.new entries.now) }
     ensures values { printed result.answer
-        ≡ printed (turn_of (market_found_turning s sides prices sizes owners numbers entries) lent records.old).answer }
+        ≡ printed (turn_of (market_in s book.old entries.now) lent records.old).answer }
 {
     let code = refusal(s, lent);
     if 0 < code {
@@ -145,8 +142,6 @@ pub fn turn_core(
     let after = after_taking(s, t);
     let series = series_of(after);
     let tallies = after.tallies;
-    let done = deal(
-        series, tallies, after.next, t, e, sides, prices, sizes, owners, numbers, records,
-    );
+    let done = deal(series, tallies, after.next, t, e, book, records);
     answered(after, t, done)
 }

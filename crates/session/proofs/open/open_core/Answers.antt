@@ -3,7 +3,7 @@
 use mathlib.Core.Path.{◌≡◌, sym, ap, ◌∙◌}
 use mathlib.Core.List.{List}
 use Prim.Native.Nat.{ℕ}
-use Rattle.book.specs.Lent.{given_sizing}
+use Rattle.book.specs.Lent.{book_in}
 use Rattle.session.specs.Market.{Market, market_of, series_of}
 use Rattle.session.specs.Open.{open_of, by_way}
 use Rattle.dealing.specs.declared.Series.{Series}
@@ -22,22 +22,22 @@ made m lent was e way is = by_way_lem m lent was _ (sym is ∙ (way ∙ ap (λ (
 pub open_book-done-requires : goal.open_book-done-requires
 open_book-done-requires c =
     let a = c.args in
-    let way = c.which_way-way.ensures a.owners.now a.numbers.now in
+    let way = c.which_way-way.ensures in
     can_open a.s _ _ (c.requires.book_sound (priced_accepted _ _ _ _ _ way c.in-At.is)) c.requires.records_len
 
 pub returns-in-Refused : goal.returns-in-Refused
 returns-in-Refused c =
     let a = c.args in
-    let m : List ℕ → Market = λ entries. market_of a.s (given_sizing a.sides a.prices a.sizes a.owners a.numbers) entries in
-    let way = c.which_way-way.ensures a.owners.now a.numbers.now in
+    let m : List ℕ → Market = λ entries. market_of a.s (book_in a.book.now) entries in
+    let way = c.which_way-way.ensures in
     let all = as_defined _ _ _ _ _ _ _ (λ entries. made (m entries) _ _ c.series_of-series.ensures way c.in-Refused.is) in
     record { exact = all.0; sound = all.1.0; values = all.1.1 }
 
 pub returns-in-Quiet : goal.returns-in-Quiet
 returns-in-Quiet c =
     let a = c.args in
-    let m : List ℕ → Market = λ entries. market_of a.s (given_sizing a.sides a.prices a.sizes a.owners a.numbers) entries in
-    let way = c.which_way-way.ensures a.owners.now a.numbers.now in
+    let m : List ℕ → Market = λ entries. market_of a.s (book_in a.book.now) entries in
+    let way = c.which_way-way.ensures in
     let all =
     as_defined _ _ _ _ _ _ _
     (λ entries. quiet_is (m entries) _ _ c.open_on.ensures ∙ made (m entries) _ _ c.series_of-series.ensures way c.in-Quiet.is) in
@@ -46,8 +46,8 @@ returns-in-Quiet c =
 pub returns-in-At : goal.returns-in-At
 returns-in-At c =
     let a = c.args in
-    let m : List ℕ → Market = λ entries. market_of a.s (given_sizing a.sides a.prices a.sizes a.owners a.numbers) entries in
-    let way = c.which_way-way.ensures a.owners.now a.numbers.now in
+    let m : List ℕ → Market = λ entries. market_of a.s (book_in a.book.now) entries in
+    let way = c.which_way-way.ensures in
     let done = c.open_book-done.ensures in
     let all =
     as_defined _ _ _ _ _ _ _

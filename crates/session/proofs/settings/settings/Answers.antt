@@ -13,8 +13,8 @@ pub returns-then-in_range : goal.returns-then-in_range
 returns-then-in_range c =
     let kept =
     settings_kept _ _ _ refl
-    (settings_accepted _ _ _ _ _ c.of-chosen.ensures c.in-One.is (sym c.in_range.ensures ∙ c.if-in_range.true) c.terms_of-terms.ensures
-    c.started-after.ensures) in
+    (rw c.new.ensures (settings_accepted _ _ _ _ _ c.of-chosen.ensures c.in-One.is (sym c.in_range.ensures ∙ c.if-in_range.true) c.terms_of-terms.ensures
+    c.started-after.ensures)) in
     record { exact = kept.0; sound = kept.1 }
 
 pub returns-else-in_range : goal.returns-else-in_range
