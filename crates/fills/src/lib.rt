@@ -6,17 +6,16 @@ pub mod on_row;
 ghost use Rattle.std.specs.Prelude.{◌≡◌, List, ℕ, ◌*◌, ◌<◌};
 ghost use Rattle.rows.specs.Rows.{rows};
 ghost use Rattle.book.specs.Fills.{fill_at, stored, Fits};
-ghost use Rattle.book.specs.Lent.{after, given_sizing, before_sizing, after_sizing};
-ghost use Rattle.session.specs.Market.{market_of, market_lent_turning, market_found_turning, market_left_turning};
+ghost use Rattle.book.specs.Lent.{book_in};
+ghost use Rattle.session.specs.Market.{market_in};
 ghost use Rattle.session.specs.Sound.{Sound, BookSound};
 ghost use Rattle.session.specs.Turn.{printed, fills_in};
 ghost use Rattle.session.specs.Open.{printed as printed_open, fills_in as fills_opened};
 ghost use Rattle.fills.specs.Calls.{turn_stored, turn_with, open_stored, open_with};
 
 use book::records::FIELDS;
-use book::{Fill, Records};
+use book::{Book, Fill, Records};
 use lanes::Entries;
-use rows::Column;
 use session::open::open_core;
 use session::turn::turn_core;
 use session::{OpenAnswer, Opened, Session, TurnAnswer, Turned};
@@ -77,69 +76,33 @@ fn store_all(fills: &mut [Fill], records: &Records, count: usize)
 }
 
 // The call turn.
-pub fn turn(
-    s: Session,
-    sides: &mut Column,
-    prices: &mut Column,
-    sizes: &mut Column,
-    owners: &mut Column,
-    numbers: &mut Column,
-    entries: &Entries,
-    fills: &mut [Fill],
-) -> Turned
-    requires { Sound (market_lent_turning s sides prices sizes owners numbers entries) }
-    ensures exact { turn_stored result (after sides prices sizes owners numbers) entries.now fills.new
-        ≡ turn_with (market_found_turning s sides prices sizes owners numbers entries) fills.old }
-    ensures sound { Sound (market_left_turning result.session sides prices sizes owners numbers entries) }
+pub fn turn(s: Session, book: &mut Book, entries: &Entries, fills: &mut [Fill]) -> Turned
+    requires { Sound (market_in s book.old entries.now) }
+    ensures exact { turn_stored result (book_in book.new) entries.now fills.new
+        ≡ turn_with (market_in s book.old entries.now) fills.old }
+    ensures sound { Sound (market_in result.session book.new entries.now) }
     ensures values { printed result.answer
-        ≡ printed (turn_with (market_found_turning s sides prices sizes owners numbers entries) fills.old).answer }
+        ≡ printed (turn_with (market_in s book.old entries.now) fills.old).answer }
 {
     let mut records = [UNWRITTEN; 864];
-    let turned = turn_core(
-        s,
-        sides,
-        prices,
-        sizes,
-        owners,
-        numbers,
-        entries,
-        fills.len(),
-        &mut records,
-    );
+    let turned = turn_core(s, book, entries, fills.len(), &mut records);
     let count = turn_fills(turned);
     store_all(fills, &records, count);
     turned
 }
 
 // The call open.
-pub fn open(
-    s: Session,
-    sides: &Column,
-    prices: &Column,
-    sizes: &mut Column,
-    owners: &Column,
-    numbers: &Column,
-    fills: &mut [Fill],
-) -> Opened
-    requires { BookSound s (given_sizing sides prices sizes owners numbers) }
-    ensures exact { (entries : List ℕ) → open_stored result (after_sizing sides prices sizes owners numbers) entries fills.new
-        ≡ open_with (market_of s (before_sizing sides prices sizes owners numbers) entries) fills.old }
-    ensures sound { (entries : List ℕ) → Sound (market_of s (before_sizing sides prices sizes owners numbers) entries)
-        → Sound (market_of result.session (after_sizing sides prices sizes owners numbers) entries) }
+pub fn open(s: Session, book: &mut Book, fills: &mut [Fill]) -> Opened
+    requires { BookSound s (book_in book.old) }
+    ensures exact { (entries : List ℕ) → open_stored result (book_in book.new) entries fills.new
+        ≡ open_with (market_in s book.old entries) fills.old }
+    ensures sound { (entries : List ℕ) → Sound (market_in s book.old entries)
+        → Sound (market_in result.session book.new entries) }
     ensures values { (entries : List ℕ) → printed_open result.answer
-        ≡ printed_open (open_with (market_of s (before_sizing sides prices sizes owners numbers) entries) fills.old).answer }
+        ≡ printed_open (open_with (market_in s book.old entries) fills.old).answer }
 {
     let mut records = [UNWRITTEN; 864];
-    let opened = open_core(
-        s,
-        sides,
-        prices,
-        sizes,
-        owners,
-        numbers,
-        fills.len(),
-        &mut records,
-    );
+    let opened = open_core(s, book, fills.len(), &mut records);
     let count = open_fills(opened);
     store_all(fills, &records, count);
     opened

@@ -1,16 +1,15 @@
 // The calls turn and open with a row of their own: it is lent to the call, and returned beside what the call answered.
 ghost use Rattle.std.specs.Prelude.{◌≡◌, List, ℕ};
-ghost use Rattle.book.specs.Lent.{after, given_sizing, before_sizing, after_sizing};
-ghost use Rattle.session.specs.Market.{market_of, market_lent_turning, market_found_turning, market_left_turning};
+ghost use Rattle.book.specs.Lent.{book_in};
+ghost use Rattle.session.specs.Market.{market_in};
 ghost use Rattle.session.specs.Sound.{Sound, BookSound};
 ghost use Rattle.session.specs.Turn.{printed};
 ghost use Rattle.session.specs.Open.{printed as printed_open};
 ghost use Rattle.fills.specs.Calls.{empty_row, turn_stored, turn_with, open_stored, open_with};
 
 use crate::{open, turn};
-use book::Fill;
+use book::{Book, Fill};
 use lanes::Entries;
-use rows::Column;
 use session::{Opened, Session, Turned};
 use units::{Cents, Contracts};
 
@@ -63,45 +62,30 @@ fn opened_row(opened: Opened, row: [Fill; 216]) -> OpenedRow
 }
 
 // A turn, with a row of empty fills.
-pub fn turn_on_row(
-    s: Session,
-    sides: &mut Column,
-    prices: &mut Column,
-    sizes: &mut Column,
-    owners: &mut Column,
-    numbers: &mut Column,
-    entries: &Entries,
-) -> TurnedRow
-    requires { Sound (market_lent_turning s sides prices sizes owners numbers entries) }
-    ensures exact { turn_stored result.turned (after sides prices sizes owners numbers) entries.now result.row
-        ≡ turn_with (market_found_turning s sides prices sizes owners numbers entries) empty_row }
-    ensures sound { Sound (market_left_turning result.turned.session sides prices sizes owners numbers entries) }
+pub fn turn_on_row(s: Session, book: &mut Book, entries: &Entries) -> TurnedRow
+    requires { Sound (market_in s book.old entries.now) }
+    ensures exact { turn_stored result.turned (book_in book.new) entries.now result.row
+        ≡ turn_with (market_in s book.old entries.now) empty_row }
+    ensures sound { Sound (market_in result.turned.session book.new entries.now) }
     ensures values { printed result.turned.answer
-        ≡ printed (turn_with (market_found_turning s sides prices sizes owners numbers entries) empty_row).answer }
+        ≡ printed (turn_with (market_in s book.old entries.now) empty_row).answer }
 {
     let mut row = no_fills();
-    let turned = turn(s, sides, prices, sizes, owners, numbers, entries, &mut row);
+    let turned = turn(s, book, entries, &mut row);
     turned_row(turned, row)
 }
 
 // An open, with a row of empty fills.
-pub fn open_on_row(
-    s: Session,
-    sides: &Column,
-    prices: &Column,
-    sizes: &mut Column,
-    owners: &Column,
-    numbers: &Column,
-) -> OpenedRow
-    requires { BookSound s (given_sizing sides prices sizes owners numbers) }
-    ensures exact { (entries : List ℕ) → open_stored result.opened (after_sizing sides prices sizes owners numbers) entries result.row
-        ≡ open_with (market_of s (before_sizing sides prices sizes owners numbers) entries) empty_row }
-    ensures sound { (entries : List ℕ) → Sound (market_of s (before_sizing sides prices sizes owners numbers) entries)
-        → Sound (market_of result.opened.session (after_sizing sides prices sizes owners numbers) entries) }
+pub fn open_on_row(s: Session, book: &mut Book) -> OpenedRow
+    requires { BookSound s (book_in book.old) }
+    ensures exact { (entries : List ℕ) → open_stored result.opened (book_in book.new) entries result.row
+        ≡ open_with (market_in s book.old entries) empty_row }
+    ensures sound { (entries : List ℕ) → Sound (market_in s book.old entries)
+        → Sound (market_in result.opened.session book.new entries) }
     ensures values { (entries : List ℕ) → printed_open result.opened.answer
-        ≡ printed_open (open_with (market_of s (before_sizing sides prices sizes owners numbers) entries) empty_row).answer }
+        ≡ printed_open (open_with (market_in s book.old entries) empty_row).answer }
 {
     let mut row = no_fills();
-    let opened = open(s, sides, prices, sizes, owners, numbers, &mut row);
+    let opened = open(s, book, &mut row);
     opened_row(opened, row)
 }
