@@ -1,22 +1,22 @@
 // The five events, each run on the market and printed.
 ghost use Rattle.std.specs.Prelude.{◌≡◌, List, ℕ, ◌*◌, min};
-ghost use Rattle.book.specs.Book.{Book};
-ghost use Rattle.book.specs.Lent.{given_sizing, before_sizing, after_sizing};
+ghost use Rattle.book.specs.Book.{Book as Book·given};
+ghost use Rattle.book.specs.Lent.{book_in};
 ghost use Rattle.lines.specs.Laying.{Room};
 ghost use Rattle.entry.specs.Numbers.{entry_numbers};
-ghost use Rattle.session.specs.Market.{market_of, market_lent, market_found, market_left, market_lent_turning, market_found_turning, market_left_turning};
+ghost use Rattle.session.specs.Market.{market_of, market_in};
 ghost use Rattle.session.specs.Sound.{LanesSound, BookSound};
 ghost use Rattle.replay.specs.Listing.{longest_event};
 ghost use Rattle.replay.specs.Replay.{settings_printed, away_printed, submit_printed, turn_printed, open_printed, event_printed, CanReplay, Replayed};
 
 use crate::Stepped;
 use crate::listing::{open_lines, turn_lines};
+use book::Book;
 use entry::{Away, ENTRY_NUMBERS, Settings};
 use fills::on_row::{open_on_row, turn_on_row};
 use lanes::Entries;
 use lines::Output;
 use lines::line::{away_line, set_line, submit_line};
-use rows::Column;
 use session::Session;
 use session::away::away;
 use session::settings::settings;
@@ -26,20 +26,16 @@ use tape::Event;
 fn settings_event(
     s: Session,
     given: Settings,
-    sides: &mut Column,
-    prices: &mut Column,
-    sizes: &mut Column,
-    owners: &mut Column,
-    numbers: &mut Column,
+    book: &mut Book,
     entries: &mut Entries,
     out: &mut Output,
     at: usize,
 ) -> Stepped
-    requires { CanReplay (market_lent s sides prices sizes owners numbers entries) out.old at }
-    ensures { Replayed (settings_printed (market_found s sides prices sizes owners numbers entries) given)
-        out.old at (market_left result.session sides prices sizes owners numbers entries) out.new result.at }
+    requires { CanReplay (market_in s book.old entries.old) out.old at }
+    ensures { Replayed (settings_printed (market_in s book.old entries.old) given)
+        out.old at (market_in result.session book.new entries.new) out.new result.at }
 {
-    let done = settings(s, given, sides, prices, sizes, owners, numbers, entries);
+    let done = settings(s, given, book, entries);
     let end = set_line(out, at, done.code);
     let after = done.session;
     Stepped {
@@ -50,7 +46,7 @@ fn settings_event(
 
 fn away_event(s: Session, quote: Away, out: &mut Output, at: usize) -> Stepped
     requires { Room out.old at longest_event }
-    ensures { (b : Book) (entries : List ℕ) → CanReplay (market_of s b entries) out.old at
+    ensures { (b : Book·given) (entries : List ℕ) → CanReplay (market_of s b entries) out.old at
         → Replayed (away_printed (market_of s b entries) quote) out.old at (market_of result.session b entries) out.new result.at }
 {
     let bid = quote.bid;
@@ -83,7 +79,7 @@ fn submit_event(
 ) -> Stepped
     requires lanes_sound { LanesSound s entries.old }
     requires room { Room out.old at longest_event }
-    ensures { (b : Book) → CanReplay (market_of s b entries.old) out.old at
+    ensures { (b : Book·given) → CanReplay (market_of s b entries.old) out.old at
         → Replayed (submit_printed (market_of s b entries.old) tenant count given.now)
         out.old at (market_of result.session b entries.new) out.new result.at }
 {
@@ -99,20 +95,16 @@ fn submit_event(
 
 fn turn_event(
     s: Session,
-    sides: &mut Column,
-    prices: &mut Column,
-    sizes: &mut Column,
-    owners: &mut Column,
-    numbers: &mut Column,
+    book: &mut Book,
     entries: &Entries,
     out: &mut Output,
     at: usize,
 ) -> Stepped
-    requires { CanReplay (market_lent_turning s sides prices sizes owners numbers entries) out.old at }
-    ensures { Replayed (turn_printed (market_found_turning s sides prices sizes owners numbers entries))
-        out.old at (market_left_turning result.session sides prices sizes owners numbers entries) out.new result.at }
+    requires { CanReplay (market_in s book.old entries.now) out.old at }
+    ensures { Replayed (turn_printed (market_in s book.old entries.now))
+        out.old at (market_in result.session book.new entries.now) out.new result.at }
 {
-    let done = turn_on_row(s, sides, prices, sizes, owners, numbers, entries);
+    let done = turn_on_row(s, book, entries);
     let turned = done.turned;
     let answer = turned.answer;
     let row = done.row;
@@ -124,28 +116,19 @@ fn turn_event(
     }
 }
 
-fn open_event(
-    s: Session,
-    sides: &Column,
-    prices: &Column,
-    sizes: &mut Column,
-    owners: &Column,
-    numbers: &Column,
-    out: &mut Output,
-    at: usize,
-) -> Stepped
-    requires book_sound { BookSound s (given_sizing sides prices sizes owners numbers) }
+fn open_event(s: Session, book: &mut Book, out: &mut Output, at: usize) -> Stepped
+    requires book_sound { BookSound s (book_in book.old) }
     requires room { Room out.old at longest_event }
-    ensures { (entries : List ℕ) → CanReplay (market_of s (before_sizing sides prices sizes owners numbers) entries) out.old at
-        → Replayed (open_printed (market_of s (before_sizing sides prices sizes owners numbers) entries))
-        out.old at (market_of result.session (after_sizing sides prices sizes owners numbers) entries) out.new result.at }
+    ensures { (entries : List ℕ) → CanReplay (market_in s book.old entries) out.old at
+        → Replayed (open_printed (market_in s book.old entries))
+        out.old at (market_in result.session book.new entries) out.new result.at }
 {
-    let before = *sizes;
-    let done = open_on_row(s, sides, prices, sizes, owners, numbers);
+    let before = book.sizes;
+    let done = open_on_row(s, book);
     let opened = done.opened;
     let answer = opened.answer;
     let row = done.row;
-    let end = open_lines(answer, &before, sizes, numbers, row, out, at);
+    let end = open_lines(answer, &before, &book.sizes, &book.numbers, row, out, at);
     let after = opened.session;
     Stepped {
         session: after,
@@ -158,26 +141,20 @@ pub fn event(
     s: Session,
     e: Event,
     given: &[u32],
-    sides: &mut Column,
-    prices: &mut Column,
-    sizes: &mut Column,
-    owners: &mut Column,
-    numbers: &mut Column,
+    book: &mut Book,
     entries: &mut Entries,
     out: &mut Output,
     at: usize,
 ) -> Stepped
-    requires { CanReplay (market_lent s sides prices sizes owners numbers entries) out.old at }
-    ensures { Replayed (event_printed (market_found s sides prices sizes owners numbers entries) e given.now)
-        out.old at (market_left result.session sides prices sizes owners numbers entries) out.new result.at }
+    requires { CanReplay (market_in s book.old entries.old) out.old at }
+    ensures { Replayed (event_printed (market_in s book.old entries.old) e given.now)
+        out.old at (market_in result.session book.new entries.new) out.new result.at }
 {
     match e {
-        Event::Settings(asked) => settings_event(
-            s, asked, sides, prices, sizes, owners, numbers, entries, out, at,
-        ),
+        Event::Settings(asked) => settings_event(s, asked, book, entries, out, at),
         Event::Away(quote) => away_event(s, quote, out, at),
         Event::Submit(tenant, count) => submit_event(s, tenant, count, given, entries, out, at),
-        Event::Turn => turn_event(s, sides, prices, sizes, owners, numbers, entries, out, at),
-        Event::Open => open_event(s, sides, prices, sizes, owners, numbers, out, at),
+        Event::Turn => turn_event(s, book, entries, out, at),
+        Event::Open => open_event(s, book, out, at),
     }
 }

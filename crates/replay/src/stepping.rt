@@ -1,14 +1,14 @@
 // One step along a tape: the event at a place is run and printed, or the tape's last line is.
 ghost use Rattle.std.specs.Prelude.{◌+◌, ◌<◌, length};
-ghost use Rattle.session.specs.Market.{market_lent, market_found, market_left};
+ghost use Rattle.session.specs.Market.{market_in};
 ghost use Rattle.replay.specs.Replay.{CanReplay};
 ghost use Rattle.replay.specs.Stepping.{step_of, StepsTo};
 
 use crate::events::event;
+use book::Book;
 use lanes::Entries;
 use lines::Output;
 use lines::line::{end_line, tape_line};
-use rows::Column;
 use session::Session;
 use tape::Reading;
 
@@ -38,28 +38,22 @@ pub fn step(
     from: usize,
     base: u64,
     given: &mut [u32],
-    sides: &mut Column,
-    prices: &mut Column,
-    sizes: &mut Column,
-    owners: &mut Column,
-    numbers: &mut Column,
+    book: &mut Book,
     entries: &mut Entries,
     out: &mut Output,
     at: usize,
 ) -> Reached
-    requires can_replay { CanReplay (market_lent s sides prices sizes owners numbers entries) out.old at }
+    requires can_replay { CanReplay (market_in s book.old entries.old) out.old at }
     requires bytes_bound { base + length bytes.now < 18446744073709551616 }
     ensures { StepsTo
-        (step_of (market_found s sides prices sizes owners numbers entries) bytes.now from base given.old)
+        (step_of (market_in s book.old entries.old) bytes.now from base given.old)
         bytes.now from out.old at result
-        (market_left result.session sides prices sizes owners numbers entries) given.new out.new }
+        (market_in result.session book.new entries.new) given.new out.new }
 {
     let reading = tape::events::event(bytes, from, given);
     match reading {
         Reading::Read(e, end) => {
-            let done = event(
-                s, e, given, sides, prices, sizes, owners, numbers, entries, out, at,
-            );
+            let done = event(s, e, given, book, entries, out, at);
             let after = done.session;
             Reached {
                 session: after,

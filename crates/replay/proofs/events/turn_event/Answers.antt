@@ -3,7 +3,7 @@ use mathlib.Core.Path.{◌≡◌, ap}
 use native.Mathlib.Omega.{arith}
 use lib.ListN.{length}
 use Rattle.session.specs.declared.TurnAnswer.{TurnAnswer}
-use Rattle.session.specs.Market.{market_lent_turning}
+use Rattle.session.specs.Market.{market_in}
 use Rattle.session.specs.Turn.{fills_in}
 use Rattle.fills.specs.Calls.{Stored, blank, empty_row}
 use Rattle.fills.specs.CallsLaws.{turn_few}
@@ -20,7 +20,7 @@ fills_are e = ap (λ (x : Stored TurnAnswer). fills_in x.answer) e
 pub turn_lines-end-requires : goal.turn_lines-end-requires
 turn_lines-end-requires c =
     let a = c.args in
-    let m = market_lent_turning a.s a.sides a.prices a.sizes a.owners a.numbers a.entries in
+    let m = market_in a.s a.book.now a.entries.now in
     let done = c.turn_on_row-done.ensures.exact in
     record {
       room = c.requires.room;
