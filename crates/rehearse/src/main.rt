@@ -9,6 +9,7 @@
 ghost use Rattle.std.specs.Prelude.{◌≡◌, length};
 ghost use Rattle.lines.specs.Laying.{output};
 
+use book::Book;
 use entry::BULK_NUMBERS;
 use lanes::ALL_ENTRIES;
 use lines::Output;
@@ -67,11 +68,7 @@ fn main(rt: HostRuntime) {
         return;
     };
     let mut s = Session::new();
-    let mut sides = [0u32; 216];
-    let mut prices = [0u32; 216];
-    let mut sizes = [0u32; 216];
-    let mut owners = [0u32; 216];
-    let mut numbers = [0u32; 216];
+    let mut book = Book::new();
     let mut entries = [0u32; ALL_ENTRIES];
     let mut given = [0u32; BULK_NUMBERS];
     let mut window = [0u8; WINDOW];
@@ -92,11 +89,7 @@ fn main(rt: HostRuntime) {
             base,
             from,
             &mut given,
-            &mut sides,
-            &mut prices,
-            &mut sizes,
-            &mut owners,
-            &mut numbers,
+            &mut book,
             &mut entries,
             &mut out,
             at,

@@ -2,7 +2,7 @@
 // both turns are printed.
 #![tactic(auto)]
 
-use book::Fill;
+use book::{Book, Fill};
 use entry::Settings;
 use fills::on_row::{TurnedRow, open_on_row, turn_on_row};
 use fills::turn_fills;
@@ -59,47 +59,18 @@ fn show(rt: &HostRuntime, done: TurnedRow) -> io::Result<()> {
 }
 
 fn main(rt: HostRuntime) -> io::Result<()> {
-    let mut sides = [0u32; 216];
-    let mut prices = [0u32; 216];
-    let mut sizes = [0u32; 216];
-    let mut owners = [0u32; 216];
-    let mut numbers = [0u32; 216];
+    let mut book = Book::new();
     let mut entries = [0u32; ALL_ENTRIES];
     let buy = [1u32, 1, 1, 100, 5, 0];
     let sell = [1u32, 2, 2, 100, 3, 0];
-    let set = settings(
-        Session::new(),
-        worked(),
-        &mut sides,
-        &mut prices,
-        &mut sizes,
-        &mut owners,
-        &mut numbers,
-        &mut entries,
-    );
-    let quiet = open_on_row(set.session, &sides, &prices, &mut sizes, &owners, &numbers);
+    let set = settings(Session::new(), worked(), &mut book, &mut entries);
+    let quiet = open_on_row(set.session, &mut book);
     let opened = quiet.opened;
     let buys = submit(opened.session, 2, 1, &buy, &mut entries);
     let sells = submit(buys.session, 7, 1, &sell, &mut entries);
-    let first = turn_on_row(
-        sells.session,
-        &mut sides,
-        &mut prices,
-        &mut sizes,
-        &mut owners,
-        &mut numbers,
-        &entries,
-    );
+    let first = turn_on_row(sells.session, &mut book, &entries);
     show(&rt, first)?;
     let turned = first.turned;
-    let second = turn_on_row(
-        turned.session,
-        &mut sides,
-        &mut prices,
-        &mut sizes,
-        &mut owners,
-        &mut numbers,
-        &entries,
-    );
+    let second = turn_on_row(turned.session, &mut book, &entries);
     show(&rt, second)
 }
