@@ -6,16 +6,16 @@ ghost use Rattle.book.specs.Lookup.{found};
 use rows::passes::order_row;
 use rows::{Column, ROWS};
 
-// It rests for this tenant, in that row; or it has been given out since the reset, and does not rest for this tenant;
-// or it was never given.
-#[derive(Clone, Copy)]
-pub enum Found {
-    Rests(usize),
+// Why no row has the order: its number has been given out since the reset, and does not rest for this tenant; or it was
+// never given.
+#[derive(Clone, Copy, PartialEq, Eq)]
+pub enum Lost {
     GivenOut,
     NeverGiven,
 }
 
-// A tenant's lookup of a number, where `next` is the number that the next accepted order is given.
+// A tenant's lookup of a number, where `next` is the number that the next accepted order is given: the row in which it
+// rests.
 pub fn find(
     owners: &Column,
     numbers: &Column,
@@ -23,15 +23,15 @@ pub fn find(
     tenant: u32,
     number: u32,
     next: u64,
-) -> Found
+) -> Result<usize, Lost>
     ensures { finding sizes owners numbers (λ b. result ≡ found b next tenant number) }
 {
     let row = order_row(owners, numbers, sizes, tenant, number);
     if row < ROWS {
-        Found::Rests(row)
-    } else if (number as u64) < next {
-        Found::GivenOut
+        Ok(row)
+    } else if u64::from(number) < next {
+        Err(Lost::GivenOut)
     } else {
-        Found::NeverGiven
+        Err(Lost::NeverGiven)
     }
 }

@@ -12,7 +12,6 @@ use crate::Records;
 use crate::records::record;
 use crate::shares::shares;
 use rows::passes::resting_within;
-use rows::row::{beyond, lesser_wide, wide};
 use rows::{Column, ROWS};
 use units::{Cents, Contracts, Total};
 
@@ -28,10 +27,8 @@ pub fn remove(quantities: &Column, sizes: &mut Column)
     requires { length sizes.old ≡ rows }
     ensures { sizes.new ≡ table (λ i. at sizes.old i - at quantities.now i) rows }
 {
-    let mut i: usize = 0;
-    while i < ROWS {
-        sizes[i] = beyond(sizes[i], quantities[i]);
-        i += 1;
+    for i in 0..ROWS {
+        sizes[i] = sizes[i].saturating_sub(quantities[i]);
     }
 }
 
@@ -39,7 +36,7 @@ pub fn remove(quantities: &Column, sizes: &mut Column)
 fn fillable(q: Contracts, all: Total) -> Contracts
     ensures { result.0 ≡ min q.0 all.0 }
 {
-    Contracts(lesser_wide(wide(q.0), all.0) as u32)
+    Contracts(u64::from(q.0).min(all.0) as u32)
 }
 
 // An order trades with the rows of one side within its bound, best price first, by the class; what each row trades and
@@ -67,7 +64,7 @@ pub fn trade(
 {
     let all = resting_within(side, bound, sides, prices, sizes);
     if all.0 == 0 {
-        *shared = [0u32; 216];
+        *shared = [0; ROWS];
         return Traded {
             filled: Contracts(0),
             fills: 0,
@@ -81,6 +78,6 @@ pub fn trade(
     remove(shared, sizes);
     Traded {
         filled: fillable(q, all),
-        fills: fills,
+        fills,
     }
 }
