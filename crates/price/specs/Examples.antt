@@ -3,7 +3,6 @@ use Rattle.std.specs.Prelude.{◌≡◌, refl, Some, None, true, false, ℕ}
 use Rattle.units.specs.Units.{cents}
 use Rattle.units.specs.Grid.{stepping, grid_of, highest_on}
 use Rattle.units.specs.declared.grid.Grid.{Grid}
-use Rattle.units.specs.declared.grid.Chosen.TheVariants.{One}
 use Rattle.price.specs.Amounts.{minimum_amount}
 use Rattle.price.specs.Price.{near_either, valid, midpoint, usable, first_valid, price_of}
 use Rattle.price.specs.declared.Sources.{Sources}
@@ -16,7 +15,7 @@ sources grid bid offer print close =
 abbrev pub E6 : Type 0
 E6 =
     (g : Grid)
-    × (grid_of 1 ≡ One g)
+    × (grid_of 1 ≡ Some g)
     × (midpoint 100 151 g ≡ 125)
     × (valid 100 151 125 ≡ true)
     × (price_of (sources g 100 151 0 0) ≡ Some (cents 125))
@@ -37,7 +36,7 @@ e6 = (stepping 1 1, refl, refl, refl, refl, refl, refl, refl, refl, refl, refl, 
 abbrev pub InGridTwo : Type 0
 InGridTwo =
     (g : Grid)
-    × (grid_of 2 ≡ One g)
+    × (grid_of 2 ≡ Some g)
     × (price_of (sources g 298 306 0 0) ≡ Some (cents 300))
     × (midpoint 299 300 g ≡ 299)
     × (midpoint 304 305 g ≡ 300)
@@ -51,7 +50,7 @@ InGridTwo =
 abbrev pub InGridThree : Type 0
 InGridThree =
     (g : Grid)
-    × (grid_of 3 ≡ One g)
+    × (grid_of 3 ≡ Some g)
     × (midpoint 299 300 g ≡ 295)
     × (midpoint 308 310 g ≡ 300)
     × (midpoint 309 311 g ≡ 310)
