@@ -17,7 +17,6 @@ use book::records::record;
 use book::shares::{TIME, shares};
 use book::trading::remove;
 use rows::passes::resting_within;
-use rows::row::{greater, lesser_wide};
 use rows::{BUY, Column, ROWS, SELL};
 use units::{Cents, Contracts, Total};
 
@@ -32,11 +31,9 @@ pub struct Matched {
 fn join(a: &Column, b: &Column) -> Column
     ensures { result ≡ table (λ i. max (found a i) (found b i)) rows }
 {
-    let mut out = [0u32; 216];
-    let mut i: usize = 0;
-    while i < ROWS {
-        out[i] = greater(a[i], b[i]);
-        i += 1;
+    let mut out = [0; ROWS];
+    for i in 0..ROWS {
+        out[i] = a[i].max(b[i]);
     }
     out
 }
@@ -46,7 +43,7 @@ fn lesser_of(buys: Total, sells: Total) -> Contracts
     requires { min buys.0 sells.0 ≤ most32 }
     ensures { result.0 ≡ min buys.0 sells.0 }
 {
-    Contracts(lesser_wide(buys.0, sells.0) as u32)
+    Contracts(buys.0.min(sells.0) as u32)
 }
 
 // What each row trades where both sides fill q contracts, by time in every class.
@@ -93,13 +90,10 @@ pub fn open_at(
     let sells = resting_within(SELL, price, sides, prices, sizes);
     let q = lesser_of(buys, sells);
     let traded = fills_at(price, q, buys, sells, sides, prices, sizes, numbers);
-    let paid = [price.0; 216];
+    let paid = [price.0; ROWS];
     *shared = traded;
     let fills = record(&paid, sides, prices, shared, owners, numbers, lent);
     remove(shared, sizes);
     cancel(price, sides, prices, sizes);
-    Matched {
-        volume: q,
-        fills: fills,
-    }
+    Matched { volume: q, fills }
 }
