@@ -10,7 +10,6 @@ ghost use Rattle.book.specs.Records.{fields};
 
 use crate::{Book, Records};
 use rows::passes::resting_within;
-use rows::row::{beyond, lesser_wide, wide};
 use rows::{Column, ROWS};
 use units::{Cents, Contracts, Total};
 
@@ -26,10 +25,8 @@ pub fn remove(quantities: &Column, sizes: &mut Column)
     requires { length sizes.old ≡ rows }
     ensures { sizes.new ≡ table (λ i. at sizes.old i - at quantities.now i) rows }
 {
-    let mut i: usize = 0;
-    while i < ROWS {
-        sizes[i] = beyond(sizes[i], quantities[i]);
-        i += 1;
+    for i in 0..ROWS {
+        sizes[i] = sizes[i].saturating_sub(quantities[i]);
     }
 }
 
@@ -37,7 +34,7 @@ pub fn remove(quantities: &Column, sizes: &mut Column)
 fn fillable(q: Contracts, all: Total) -> Contracts
     ensures { result.0 ≡ min q.0 all.0 }
 {
-    Contracts(lesser_wide(wide(q.0), all.0) as u32)
+    Contracts(u64::from(q.0).min(all.0) as u32)
 }
 
 impl Book {
@@ -61,7 +58,7 @@ impl Book {
     {
         let all = resting_within(side, bound, &self.sides, &self.prices, &self.sizes);
         if all.0 == 0 {
-            *shared = [0u32; 216];
+            *shared = [0; ROWS];
             return Traded {
                 filled: Contracts(0),
                 fills: 0,

@@ -16,7 +16,6 @@ use book::shares::TIME;
 use book::trading::remove;
 use book::{Book, Records};
 use rows::passes::resting_within;
-use rows::row::{greater, lesser_wide};
 use rows::{BUY, Column, ROWS, SELL};
 use units::{Cents, Contracts, Total};
 
@@ -31,11 +30,9 @@ pub struct Matched {
 fn join(a: &Column, b: &Column) -> Column
     ensures { result ≡ table (λ i. max (found a i) (found b i)) rows }
 {
-    let mut out = [0u32; 216];
-    let mut i: usize = 0;
-    while i < ROWS {
-        out[i] = greater(a[i], b[i]);
-        i += 1;
+    let mut out = [0; ROWS];
+    for i in 0..ROWS {
+        out[i] = a[i].max(b[i]);
     }
     out
 }
@@ -45,7 +42,7 @@ fn lesser_of(buys: Total, sells: Total) -> Contracts
     requires { min buys.0 sells.0 ≤ most32 }
     ensures { result.0 ≡ min buys.0 sells.0 }
 {
-    Contracts(lesser_wide(buys.0, sells.0) as u32)
+    Contracts(buys.0.min(sells.0) as u32)
 }
 
 // What each row trades where both sides fill q contracts, by time in every class.
@@ -74,13 +71,10 @@ pub fn open_at(book: &mut Book, price: Cents, shared: &mut Column, lent: &mut Re
     let sells = resting_within(SELL, price, &book.sides, &book.prices, &book.sizes);
     let q = lesser_of(buys, sells);
     let traded = fills_at(book, price, q, buys, sells);
-    let paid = [price.0; 216];
+    let paid = [price.0; ROWS];
     *shared = traded;
     let fills = book.record(&paid, shared, lent);
     remove(shared, &mut book.sizes);
     cancel(price, &book.sides, &book.prices, &mut book.sizes);
-    Matched {
-        volume: q,
-        fills: fills,
-    }
+    Matched { volume: q, fills }
 }

@@ -2,6 +2,8 @@
 use Rattle.std.specs.Prelude.{◌≡◌, Bool, true, false, cond, ℕ, ◌-◌, ◌≤◌, ◌<◌, ltb}
 use Rattle.std.proofs.Common.{subst, arith}
 use Rattle.units.specs.Tests.{pick, picked_of_both}
+use Rattle.window.specs.declared.program.Status.{Status}
+use Rattle.window.specs.declared.program.Status.TheVariants.{Going, Ended, Refused, Failed}
 
 -- it goes on
 abbrev pub going : ℕ
@@ -18,6 +20,13 @@ refused = 49
 -- `2`: a file could not be opened, a read or a write failed
 abbrev pub failed : ℕ
 failed = 50
+
+-- the byte that tells it
+abbrev pub status_byte : Status → ℕ
+status_byte Going = going
+status_byte Ended = ended
+status_byte Refused = refused
+status_byte Failed = failed
 
 -- it has stopped by what it read
 abbrev pub Stopped : ℕ → Type 0

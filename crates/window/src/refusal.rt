@@ -31,12 +31,9 @@ fn word(out: &mut [u8], bytes: &[u8]) -> usize
     requires { length bytes.now ≤ length out.old }
     ensures { Lays out.old 0 bytes.now result out.new }
 {
-    let mut i: usize = 0;
-    while i < bytes.len() {
-        out[i] = bytes[i];
-        i += 1;
-    }
-    i
+    let end = bytes.len();
+    out[..end].copy_from_slice(bytes);
+    end
 }
 
 // One byte.

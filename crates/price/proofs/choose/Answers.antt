@@ -3,12 +3,12 @@
 use mathlib.Core.Path.{◌≡◌, sym, ap, ◌∙◌}
 use mathlib.Core.Bool.{Bool}
 use Prim.Native.Nat.{ℕ}
+use Rattle.std.specs.Prelude.{Some}
 use Rattle.units.specs.Units.{cents}
 use Rattle.units.specs.declared.Cents.{Cents}
 use Rattle.price.specs.Price.{midpoint, usable}
 use Rattle.price.specs.PriceLaws.{at_midpoint, at_print, at_close, nowhere, first_chosen}
 use Rattle.price.specs.declared.Sources.{Sources}
-use Rattle.price.specs.declared.Choice.TheVariants.{At}
 use Rattle.price.proofs.choose.Goals as goal
 
 -- what the test of the midpoint says
@@ -17,7 +17,7 @@ tried : (s : Sources) {m : Cents} {u t : Bool} → m.0 ≡ midpoint s.bid.0 s.of
 tried s m k e = rw m at (sym k ∙ e)
 
 pub returns-then-usable : goal.returns-then-usable
-returns-then-usable c = ap (λ (n : ℕ). At (cents n)) c.midpoint-middle.ensures ∙ sym (first_chosen c.args.s (at_midpoint (tried c.args.s c.midpoint-middle.ensures c.usable.ensures c.if-usable.true)))
+returns-then-usable c = ap (λ (n : ℕ). Some (cents n)) c.midpoint-middle.ensures ∙ sym (first_chosen c.args.s (at_midpoint (tried c.args.s c.midpoint-middle.ensures c.usable.ensures c.if-usable.true)))
 
 pub returns-then-usable-2 : goal.returns-then-usable-2
 returns-then-usable-2 c = sym (first_chosen c.args.s (at_print (tried c.args.s c.midpoint-middle.ensures c.usable.ensures c.if-usable.false) (sym c.usable-else-usable.ensures ∙ c.if-usable-2.true)))
