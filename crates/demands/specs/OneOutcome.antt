@@ -18,7 +18,10 @@ use Rattle.units.specs.Units.{cents, contracts, total}
 use Rattle.tally.specs.declared.Tally.{Tally}
 use Rattle.tally.specs.Tallies.{plus}
 use Rattle.tally.specs.contracts.add as tally_add
-use Rattle.book.specs.Book.{Book, book_of, empty_book}
+use Rattle.book.specs.Book.{Book, empty_book}
+use Rattle.book.specs.Lent.{book_in}
+use Rattle.book.specs.declared.Book.{Book as Columns}
+use Rattle.book.proofs.Book.new.Reads as book_new
 use Rattle.lines.specs.Laying.{Laid}
 use Rattle.session.specs.declared.Answered.{Answered}
 use Rattle.session.specs.declared.Opened.{Opened}
@@ -45,12 +48,12 @@ use Rattle.allocation.specs.Edge.{EdgeAt}
 use Rattle.allocation.specs.EdgeLaws.{edge_one}
 use Rattle.allocation.proofs.reach.edge_of.Reads as allocation_edge_of
 use Rattle.allocation.proofs.reach.in_line.Reads as allocation_in_line
-use Rattle.book.proofs.records.record.Reads as book_record
-use Rattle.book.proofs.resting.rest.Reads as book_rest
-use Rattle.book.proofs.lookup.find.Reads as book_find
-use Rattle.book.proofs.resting.free.Reads as book_free
+use Rattle.book.proofs.Book.record.Reads as book_record
+use Rattle.book.proofs.Book.rest.Reads as book_rest
+use Rattle.book.proofs.Book.find.Reads as book_find
+use Rattle.book.proofs.Book.free.Reads as book_free
 use Rattle.book.proofs.trading.remove.Reads as book_remove
-use Rattle.book.proofs.trading.trade.Reads as book_trade
+use Rattle.book.proofs.Book.trade.Reads as book_trade
 use Rattle.opening.proofs.matching.open_at.Reads as opening_open_at
 use Rattle.lanes.proofs.ring.put_all.Reads as lanes_put_all
 use Rattle.session.proofs.settings.settings.Reads as session_settings
@@ -116,10 +119,10 @@ use Rattle.marks.proofs.insert.Reads as marks_insert
 use Rattle.allocation.proofs.shares.by_time.Reads as allocation_by_time
 use Rattle.allocation.proofs.shares.sharing.Reads as allocation_sharing
 use Rattle.allocation.proofs.shares.in_proportion.Reads as allocation_in_proportion
-use Rattle.book.proofs.quotes.best_bid.Reads as book_best_bid
-use Rattle.book.proofs.quotes.best_offer.Reads as book_best_offer
-use Rattle.book.proofs.quotes.crosses.Reads as book_crosses
-use Rattle.book.proofs.shares.shares.Reads as book_shares
+use Rattle.book.proofs.Book.best_bid.Reads as book_best_bid
+use Rattle.book.proofs.Book.best_offer.Reads as book_best_offer
+use Rattle.book.proofs.Book.crosses.Reads as book_crosses
+use Rattle.book.proofs.Book.shares.Reads as book_shares
 use Rattle.tally.proofs.added.Reads as tally_added
 use Rattle.tally.proofs.none.Reads as tally_none
 use Rattle.tally.proofs.count.Reads as tally_count
@@ -177,35 +180,26 @@ same p q = p ∙ sym q
 
 -- ---- memory lent
 
--- a list of numbers lent to be changed, and one lent to be read alone; and of parameters in a row what the first is
--- left with
+-- a list of numbers lent to be changed, and a book; and of parameters in a row what the first is left with
 abbrev Lent : Type 0
 Lent = MutBor (List ℕ)
 
-abbrev Read : Type 0
-Read = Bor (List ℕ)
+abbrev LentBook : Type 0
+LentBook = MutBor Columns
 
 abbrev pub first : {X : Type 0} → Lent × X → List (List ℕ)
 first e = e.0.now ∷ []
 
--- the columns of a book, before others; and the book of five parameters in a row, with all of them lent to be changed,
--- or the sizes alone
+-- the columns of a book, before others; and the book that is lent to be changed
 abbrev pub columns : Book → List (List ℕ) → List (List ℕ)
 columns b more = b.sides ∷ b.prices ∷ b.sizes ∷ b.owners ∷ b.numbers ∷ more
 
-abbrev pub book_at : {X : Type 0} → Lent × (Lent × (Lent × (Lent × (Lent × X)))) → Book
-book_at e = book_of e.0.now e.1.0.now e.1.1.0.now e.1.1.1.0.now e.1.1.1.1.0.now
+abbrev pub book_at : {X : Type 0} → LentBook × X → Book
+book_at e = book_in e.0.now
 
-abbrev pub book_at_sizing : {X : Type 0} → Read × (Read × (Lent × (Read × (Read × X)))) → Book
-book_at_sizing e = book_of e.0.now e.1.0.now e.1.1.0.now e.1.1.1.0.now e.1.1.1.1.0.now
-
--- sizes, owners, numbers, what each row traded, and the records, in a row: those of them that a match writes
-abbrev pub match_lent : {X : Type 0} → Lent × (Read × (Read × (Lent × (Lent × X)))) → List (List ℕ)
-match_lent e = e.0.now ∷ e.1.1.1.0.now ∷ e.1.1.1.1.0.now ∷ []
-
--- the columns of a market, its lanes' entries and the output, in a row
-abbrev pub market_lent : {X : Type 0} → Lent × (Lent × (Lent × (Lent × (Lent × (Lent × (Lent × X)))))) → List (List ℕ)
-market_lent e = columns (book_at e) (e.1.1.1.1.1.0.now ∷ e.1.1.1.1.1.1.0.now ∷ [])
+-- the book of a market, its lanes' entries and the output, in a row
+abbrev pub market_lent : {X : Type 0} → LentBook × (Lent × (Lent × X)) → List (List ℕ)
+market_lent e = columns (book_at e) (e.1.0.now ∷ e.1.1.0.now ∷ [])
 
 -- one list is left as it is told
 alone : {l l' k : List ℕ} → l ≡ k → l' ≡ k → ◌≡◌ {A = List (List ℕ)} (l ∷ []) (l' ∷ [])
@@ -222,12 +216,12 @@ laid p q = (same p.end q.end, alone p.stored q.stored)
 
 -- two matches told alike: the book, the records, what each row traded, and the answer
 matched : {Z : Type 0} {b b' c : Book} {w w' u t t' v : List ℕ} {z z' y : Z} → (b ≡ c) × ((w ≡ u) × ((t ≡ v) × (z ≡ y))) → (b' ≡ c) × ((w' ≡ u) × ((t' ≡ v) × (z' ≡ y)))
-    → (z ≡ z') × (◌≡◌ {A = List (List ℕ)} (b.sizes ∷ t ∷ w ∷ []) (b'.sizes ∷ t' ∷ w' ∷ []))
+    → (z ≡ z') × (◌≡◌ {A = List (List ℕ)} (columns b (t ∷ w ∷ [])) (columns b' (t' ∷ w' ∷ [])))
 matched p q =
-    let sizes = ap (λ (b : Book). b.sizes) (same p.0 q.0) in
+    let book = same p.0 q.0 in
     let records = same p.1.0 q.1.0 in
     let traded = same p.1.1.0 q.1.1.0 in
-    (same p.1.1.1 q.1.1.1, λ i. sizes i ∷ traded i ∷ records i ∷ [])
+    (same p.1.1.1 q.1.1.1, λ i. columns (book i) (traded i ∷ records i ∷ []))
 
 -- what a call answered
 answered : Called → Answered
@@ -472,40 +466,43 @@ one_allocation_in_proportion κs a z z' e e' = same
 
 -- ---- book
 
+pub one_book_new : (κs : _) (a : _) (z z' : Columns) (e e' : _) → book_new.Post κs a z e → book_new.Post κs a z' e' → book_in z ≡ book_in z'
+one_book_new κs a z z' e e' = same
+
 pub one_book_best_bid : OneResult book_best_bid.Post
-one_book_best_bid κs a z z' e e' p q = same (p [] []) (q [] [])
+one_book_best_bid κs a z z' e e' = same
 
 pub one_book_best_offer : OneResult book_best_offer.Post
-one_book_best_offer κs a z z' e e' p q = same (p [] []) (q [] [])
+one_book_best_offer κs a z z' e e' = same
 
 pub one_book_crosses : OneResult book_crosses.Post
-one_book_crosses κs a z z' e e' p q = same (p [] []) (q [] [])
+one_book_crosses κs a z z' e e' = same
 
 pub one_book_find : OneResult book_find.Post
-one_book_find κs a z z' e e' p q = same (p [] []) (q [] [])
+one_book_find κs a z z' e e' = same
 
 pub one_book_shares : OneResult book_shares.Post
 one_book_shares κs a z z' e e' = same
 
 -- the records lent, and how many are written
-pub one_book_record : OneOutcome book_record.Post (λ e. first e.1.1.1.1.1.1)
+pub one_book_record : OneOutcome book_record.Post (λ e. first e.1.1.1)
 one_book_record κs a z z' e e' p q = (same p.1 q.1, alone p.0 q.0)
 
-pub one_book_rest : OneOutcome book_rest.Post (λ e. columns (book_at e.1.1.1.1.1) [])
+pub one_book_rest : OneOutcome book_rest.Post (λ e. columns (book_at e) [])
 one_book_rest κs a z z' e e' p q = (refl, ap (λ (b : Book). columns b []) (same p q))
 
-pub one_book_free : OneOutcome book_free.Post (λ e. first e.1)
-one_book_free κs a z z' e e' p q = (refl, ap (λ (b : Book). b.sizes ∷ []) (same (p [] [] [] []) (q [] [] [] [])))
+pub one_book_free : OneOutcome book_free.Post (λ e. columns (book_at e) [])
+one_book_free κs a z z' e e' p q = (refl, ap (λ (b : Book). columns b []) (same p q))
 
 pub one_book_remove : OneOutcome book_remove.Post (λ e. first e.1)
 one_book_remove κs a z z' e e' = stored
 
-pub one_book_trade : OneOutcome book_trade.Post (λ e. match_lent e.1.1.1.1.1.1)
+pub one_book_trade : OneOutcome book_trade.Post (λ e. columns (book_at e) (e.1.1.1.1.1.0.now ∷ first e.1.1.1.1.1.1))
 one_book_trade κs a z z' e e' = matched
 
 -- ---- opening
 
-pub one_opening_open_at : OneOutcome opening_open_at.Post (λ e. match_lent e.1.1.1)
+pub one_opening_open_at : OneOutcome opening_open_at.Post (λ e. columns (book_at e) (e.1.1.0.now ∷ first e.1.1.1))
 one_opening_open_at κs a z z' e e' = matched
 
 -- ---- tally
@@ -621,18 +618,18 @@ pub one_dealing_credit : OneResult dealing_credit.Post
 one_dealing_credit κs a z z' e e' = same
 
 -- the book and the fill records
-pub one_dealing_deal : OneOutcome dealing_deal.Post (λ e. columns (book_at e.1.1.1.1.1) (first e.1.1.1.1.1.1.1.1.1.1))
+pub one_dealing_deal : OneOutcome dealing_deal.Post (λ e. columns (book_at e.1.1.1.1.1) (first e.1.1.1.1.1.1))
 one_dealing_deal κs a z z' e e' p q =
     let one = same p q in
     (λ i. record { tallies = (one i).tallies; came = (one i).came }, ap (λ (d : Made). columns d.book (d.records ∷ [])) one)
 
 pub one_dealing_which_way : OneResult dealing_which_way.Post
-one_dealing_which_way κs a z z' e e' p q = same (p [] []) (q [] [])
+one_dealing_which_way κs a z z' e e' = same
 
--- the sizes and the fill records
-pub one_dealing_open_book : OneOutcome dealing_open_book.Post (λ e. e.1.1.1.1.0.now ∷ first e.1.1.1.1.1.1.1)
+-- the book and the fill records
+pub one_dealing_open_book : OneOutcome dealing_open_book.Post (λ e. columns (book_at e.1.1) (first e.1.1.1))
 one_dealing_open_book κs a z z' e e' p q =
-    (same p.1.1 q.1.1, λ i. (same p.0 q.0 i).sizes ∷ same p.1.0 q.1.0 i ∷ [])
+    (same p.1.1 q.1.1, λ i. columns (same p.0 q.0 i) (same p.1.0 q.1.0 i ∷ []))
 
 -- ---- session
 
@@ -644,7 +641,7 @@ unfolding answered
 one_session_away κs a z z' e e' p q = ap answered (same (p.0 no_book []) (q.0 no_book []))
 
 -- the columns of the book and the lanes' entries
-pub one_session_settings : OneOutcome session_settings.Post (λ e. columns (book_at e.1.1) (first e.1.1.1.1.1.1.1))
+pub one_session_settings : OneOutcome session_settings.Post (λ e. columns (book_at e.1.1) (first e.1.1.1))
 unfolding answered
 one_session_settings κs a z z' e e' p q =
     let one = same p.0 q.0 in
@@ -657,18 +654,18 @@ one_session_submit κs a z z' e e' p q =
     (ap answered one, ap (λ (c : Called). c.market.entries ∷ []) one)
 
 -- the columns of the book and the fill records
-pub one_session_turn : OneOutcome session_turn.Post (λ e. columns (book_at e.1) (first e.1.1.1.1.1.1.1.1))
+pub one_session_turn : OneOutcome session_turn.Post (λ e. columns (book_at e.1) (first e.1.1.1.1))
 unfolding turned
 one_session_turn κs a z z' e e' p q =
     let one = same p.0 q.0 in
     (ap turned one, ap (λ (d : TurnDone). columns d.market.book (d.records ∷ [])) one)
 
--- the sizes and the fill records
-pub one_session_open : OneOutcome session_open.Post (λ e. e.1.1.1.0.now ∷ first e.1.1.1.1.1.1.1)
+-- the columns of the book and the fill records
+pub one_session_open : OneOutcome session_open.Post (λ e. columns (book_at e.1) (first e.1.1.1))
 unfolding opened
 one_session_open κs a z z' e e' p q =
     let one = same (p.0 []) (q.0 []) in
-    (ap opened one, ap (λ (d : OpenDone). d.market.book.sizes ∷ d.records ∷ []) one)
+    (ap opened one, ap (λ (d : OpenDone). columns d.market.book (d.records ∷ [])) one)
 
 pub one_session_tally_of : OneResult session_tally_of.Post
 one_session_tally_of κs a z z' e e' = same
@@ -688,56 +685,56 @@ abbrev pub OpenAs : Session → Book → List Fill → Opened → Book → List 
 OpenAs s found row r b left = (entries : List ℕ) → open_stored r b entries left ≡ open_with (market_of s found entries) row
 
 pub fills_turn_promise : {M : Type 1} {𝓤 : Ura.Ura M} (𝓛 : Logic 𝓤) (mem : Memory.Memory → Logic.SProp 𝓤) (run : Routine.Routine → Monad.Fun 𝓤)
-    (κs : Lifetimes.Lfts 7) (a : World.ArgsD fills_turn.signature κs) (z : World.ResD fills_turn.signature κs) (e : Clauses.AtExit fills_turn.ended κs)
+    (κs : Lifetimes.Lfts 3) (a : World.ArgsD fills_turn.signature κs) (z : World.ResD fills_turn.signature κs) (e : Clauses.AtExit fills_turn.ended κs)
     → (fills_turn.clauses 𝓛 mem run κs a).ensures tt z e
     ≡ (Notation.connectives 𝓤).◌∗◌
     ((Notation.connectives 𝓤).⌜◌⌝ (
-    TurnAs (market_of a.0 (book_at a.1) a.1.1.1.1.1.1.0.now) a.1.1.1.1.1.1.1.0.now
-    z (book_at e.1) a.1.1.1.1.1.1.0.now e.1.1.1.1.1.1.1.0.now))
+    TurnAs (market_of a.0 (book_at a.1) a.1.1.0.now) a.1.1.1.0.now
+    z (book_at e.1) a.1.1.0.now e.1.1.1.0.now))
     ((Notation.connectives 𝓤).◌∗◌
-    ((Notation.connectives 𝓤).⌜◌⌝ (Sound (market_of z.session (book_at e.1) e.1.1.1.1.1.1.0.now)))
+    ((Notation.connectives 𝓤).⌜◌⌝ (Sound (market_of z.session (book_at e.1) a.1.1.0.now)))
     ((Notation.connectives 𝓤).⌜◌⌝ (
     printed z.answer
-    ≡ printed (turn_with (market_of a.0 (book_at a.1) a.1.1.1.1.1.1.0.now) a.1.1.1.1.1.1.1.0.now).answer)))
+    ≡ printed (turn_with (market_of a.0 (book_at a.1) a.1.1.0.now) a.1.1.1.0.now).answer)))
 fills_turn_promise 𝓛 mem run κs a z e = refl
 
 pub fills_open_promise : {M : Type 1} {𝓤 : Ura.Ura M} (𝓛 : Logic 𝓤) (mem : Memory.Memory → Logic.SProp 𝓤) (run : Routine.Routine → Monad.Fun 𝓤)
-    (κs : Lifetimes.Lfts 6) (a : World.ArgsD fills_open.signature κs) (z : World.ResD fills_open.signature κs) (e : Clauses.AtExit fills_open.ended κs)
+    (κs : Lifetimes.Lfts 2) (a : World.ArgsD fills_open.signature κs) (z : World.ResD fills_open.signature κs) (e : Clauses.AtExit fills_open.ended κs)
     → (fills_open.clauses 𝓛 mem run κs a).ensures tt z e
     ≡ (Notation.connectives 𝓤).◌∗◌
-    ((Notation.connectives 𝓤).⌜◌⌝ (OpenAs a.0 (book_at_sizing a.1) a.1.1.1.1.1.1.0.now z (book_at_sizing e.1) e.1.1.1.1.1.1.0.now))
+    ((Notation.connectives 𝓤).⌜◌⌝ (OpenAs a.0 (book_at a.1) a.1.1.0.now z (book_at e.1) e.1.1.0.now))
     ((Notation.connectives 𝓤).◌∗◌
     ((Notation.connectives 𝓤).⌜◌⌝ (
-    (entries : List ℕ) → Sound (market_of a.0 (book_at_sizing a.1) entries) → Sound (market_of z.session (book_at_sizing e.1) entries)))
+    (entries : List ℕ) → Sound (market_of a.0 (book_at a.1) entries) → Sound (market_of z.session (book_at e.1) entries)))
     ((Notation.connectives 𝓤).⌜◌⌝ (
     (entries : List ℕ) → printed_open z.answer
-    ≡ printed_open (open_with (market_of a.0 (book_at_sizing a.1) entries) a.1.1.1.1.1.1.0.now).answer)))
+    ≡ printed_open (open_with (market_of a.0 (book_at a.1) entries) a.1.1.0.now).answer)))
 fills_open_promise 𝓛 mem run κs a z e = refl
 
 -- with a row of the call's own, which is empty
 pub fills_turn_on_row_promise : {M : Type 1} {𝓤 : Ura.Ura M} (𝓛 : Logic 𝓤) (mem : Memory.Memory → Logic.SProp 𝓤) (run : Routine.Routine → Monad.Fun 𝓤)
-    (κs : Lifetimes.Lfts 6) (a : World.ArgsD fills_turn_on_row.signature κs) (z : World.ResD fills_turn_on_row.signature κs) (e : Clauses.AtExit fills_turn_on_row.ended κs)
+    (κs : Lifetimes.Lfts 2) (a : World.ArgsD fills_turn_on_row.signature κs) (z : World.ResD fills_turn_on_row.signature κs) (e : Clauses.AtExit fills_turn_on_row.ended κs)
     → (fills_turn_on_row.clauses 𝓛 mem run κs a).ensures tt z e
     ≡ (Notation.connectives 𝓤).◌∗◌
     ((Notation.connectives 𝓤).⌜◌⌝ (
-    TurnAs (market_of a.0 (book_at a.1) a.1.1.1.1.1.1.0.now) empty_row z.turned (book_at e.1) a.1.1.1.1.1.1.0.now z.row))
+    TurnAs (market_of a.0 (book_at a.1) a.1.1.0.now) empty_row z.turned (book_at e.1) a.1.1.0.now z.row))
     ((Notation.connectives 𝓤).◌∗◌
-    ((Notation.connectives 𝓤).⌜◌⌝ (Sound (market_of z.turned.session (book_at e.1) e.1.1.1.1.1.1.0.now)))
+    ((Notation.connectives 𝓤).⌜◌⌝ (Sound (market_of z.turned.session (book_at e.1) a.1.1.0.now)))
     ((Notation.connectives 𝓤).⌜◌⌝ (
     printed z.turned.answer
-    ≡ printed (turn_with (market_of a.0 (book_at a.1) a.1.1.1.1.1.1.0.now) empty_row).answer)))
+    ≡ printed (turn_with (market_of a.0 (book_at a.1) a.1.1.0.now) empty_row).answer)))
 fills_turn_on_row_promise 𝓛 mem run κs a z e = refl
 
 pub fills_open_on_row_promise : {M : Type 1} {𝓤 : Ura.Ura M} (𝓛 : Logic 𝓤) (mem : Memory.Memory → Logic.SProp 𝓤) (run : Routine.Routine → Monad.Fun 𝓤)
-    (κs : Lifetimes.Lfts 5) (a : World.ArgsD fills_open_on_row.signature κs) (z : World.ResD fills_open_on_row.signature κs) (e : Clauses.AtExit fills_open_on_row.ended κs)
+    (κs : Lifetimes.Lfts 1) (a : World.ArgsD fills_open_on_row.signature κs) (z : World.ResD fills_open_on_row.signature κs) (e : Clauses.AtExit fills_open_on_row.ended κs)
     → (fills_open_on_row.clauses 𝓛 mem run κs a).ensures tt z e
     ≡ (Notation.connectives 𝓤).◌∗◌
-    ((Notation.connectives 𝓤).⌜◌⌝ (OpenAs a.0 (book_at_sizing a.1) empty_row z.opened (book_at_sizing e.1) z.row))
+    ((Notation.connectives 𝓤).⌜◌⌝ (OpenAs a.0 (book_at a.1) empty_row z.opened (book_at e.1) z.row))
     ((Notation.connectives 𝓤).◌∗◌
     ((Notation.connectives 𝓤).⌜◌⌝ (
-    (entries : List ℕ) → Sound (market_of a.0 (book_at_sizing a.1) entries) → Sound (market_of z.opened.session (book_at_sizing e.1) entries)))
+    (entries : List ℕ) → Sound (market_of a.0 (book_at a.1) entries) → Sound (market_of z.opened.session (book_at e.1) entries)))
     ((Notation.connectives 𝓤).⌜◌⌝ (
-    (entries : List ℕ) → printed_open z.opened.answer ≡ printed_open (open_with (market_of a.0 (book_at_sizing a.1) entries) empty_row).answer)))
+    (entries : List ℕ) → printed_open z.opened.answer ≡ printed_open (open_with (market_of a.0 (book_at a.1) entries) empty_row).answer)))
 fills_open_on_row_promise 𝓛 mem run κs a z e = refl
 
 -- each of these equations is met by one outcome
