@@ -1,20 +1,18 @@
 -- The marked example of the rotation, computed.
-use Rattle.std.specs.Prelude.{◌≡◌, refl, List, [], ◌∷◌, ℕ, zero, suc}
+use Rattle.std.specs.Prelude.{◌≡◌, refl, List, [], ◌∷◌, ℕ, zero, suc, Option, Some, None}
 use Rattle.units.specs.Tests.{pick}
 use Rattle.units.specs.Firsts.{first_to}
 use Rattle.lanes.specs.declared.Lanes.{Lanes}
-use Rattle.lanes.specs.declared.Served.{Served}
-use Rattle.lanes.specs.declared.Served.TheVariants.{Lane, Nobody}
 use Rattle.lanes.specs.Ring.{taken}
 use Rattle.lanes.specs.Rotation.{distance, served_by, served}
 
 -- the lanes once the lane served has given up its head entry
-abbrev next : Lanes → Served → Lanes
-next l (Lane t) = taken l t
-next l Nobody = l
+abbrev next : Lanes → Option ℕ → Lanes
+next l (Some t) = taken l t
+next l None = l
 
 -- the lanes that n turns serve
-unfoldable pub turns_go : ℕ → Lanes → List Served
+unfoldable pub turns_go : ℕ → Lanes → List (Option ℕ)
 turns_go zero l = []
 turns_go (suc n) l = served l ∷ turns_go n (next l (served l))
 
@@ -23,7 +21,7 @@ abbrev pub E10 : Type 0
 E10 =
     (heads : List ℕ) →
     turns_go 5 (record { heads = heads; lens = 20 ∷ 0 ∷ 0 ∷ 1 ∷ 0 ∷ 1 ∷ 0 ∷ 0 ∷ 0 ∷ []; place = 0 }) ≡
-    Lane 0 ∷ Lane 3 ∷ Lane 5 ∷ Lane 0 ∷ Lane 0 ∷ []
+    Some 0 ∷ Some 3 ∷ Some 5 ∷ Some 0 ∷ Some 0 ∷ []
 
 pub e10 : E10
 unfolding turns_go served served_by distance first_to pick taken

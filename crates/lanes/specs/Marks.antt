@@ -1,5 +1,5 @@
 -- The lanes' marks stay within their rings, and the lane that a turn serves is one from which it can take.
-use Rattle.std.specs.Prelude.{◌≡◌, ℕ, ◌+◌, ◌-◌, ◌%◌, ◌≤◌, ◌<◌, length}
+use Rattle.std.specs.Prelude.{◌≡◌, ℕ, ◌+◌, ◌-◌, ◌%◌, ◌≤◌, ◌<◌, length, Some}
 use Rattle.std.proofs.Common.{◌∙◌, arith}
 use Rattle.std.proofs.Math.ListN.{length-set}
 use Rattle.std.proofs.lemmas.List.{length-replicate, get_or-replicate}
@@ -7,7 +7,6 @@ use borrow.Author.Tests.{ltb-true}
 use Rattle.units.specs.Units.{tenants}
 use Rattle.units.specs.Places.{set_each}
 use Rattle.lanes.specs.declared.Lanes.{Lanes}
-use Rattle.lanes.specs.declared.Served.TheVariants.{Lane}
 use Rattle.lanes.specs.Ring.{depth, head_of, len_of, joined, taken, empty}
 use Rattle.lanes.specs.Asked.{CanJoin, CanTake}
 use Rattle.lanes.specs.Rotation.{waits, served}
@@ -52,7 +51,7 @@ module _ (l : Lanes) (t : ℕ) (m : Marked l) where
   }
 
   -- an entry can be taken of the lane that is served
-  pub served_can_take : served l ≡ Lane t → CanTake l t
+  pub served_can_take : served l ≡ Some t → CanTake l t
   unfolding served
   served_can_take e =
       let first = (served_first (waits l) l.place m.place t).0 e in

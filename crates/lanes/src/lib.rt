@@ -29,13 +29,6 @@ pub struct Lanes {
     pub place: usize,
 }
 
-// The lane that the next turn serves.
-#[derive(Clone, Copy)]
-pub enum Served {
-    Lane(usize),
-    Nobody,
-}
-
 impl Lanes {
     // No entry waits, and the rotation is at tenant 0.
     pub fn new() -> Lanes

@@ -62,7 +62,7 @@ pub fn key(side: u32, price: Cents) -> u32
     if side == SELL {
         price.0
     } else {
-        beyond(HIGHEST, price.0)
+        HIGHEST.saturating_sub(price.0)
     }
 }
 
@@ -81,12 +81,8 @@ fn within(side: u32, price: Cents, bound: Cents) -> bool
 pub fn open_size(side: u32, bound: Cents, row_side: u32, price: Cents, size: Contracts) -> Contracts
     ensures { result.0 ≡ open_size side bound.0 row_side price.0 size.0 }
 {
-    if row_side == side {
-        if within(side, price, bound) {
-            size
-        } else {
-            Contracts(0)
-        }
+    if row_side == side && within(side, price, bound) {
+        size
     } else {
         Contracts(0)
     }
@@ -96,21 +92,15 @@ pub fn open_size(side: u32, bound: Cents, row_side: u32, price: Cents, size: Con
 pub fn reachable(side: u32, bound: Cents, row_side: u32, price: Cents, size: Contracts) -> bool
     ensures { result ≡ ltb 0 (open_size side bound.0 row_side price.0 size.0) }
 {
-    let held = 0 < size.0;
-    let near = within(side, price, bound);
-    if side == row_side {
-        if near { held } else { false }
-    } else {
-        false
-    }
+    0 < open_size(side, bound, row_side, price, size).0
 }
 
 // A row's price if it is a resting buy, else 0.
 pub(crate) fn buy_price(side: u32, price: Cents, size: Contracts) -> Cents
     ensures { result.0 ≡ buy_price side price.0 size.0 }
 {
-    if side == BUY {
-        if 0 < size.0 { price } else { Cents(0) }
+    if side == BUY && 0 < size.0 {
+        price
     } else {
         Cents(0)
     }
@@ -120,8 +110,8 @@ pub(crate) fn buy_price(side: u32, price: Cents, size: Contracts) -> Cents
 pub(crate) fn sell_price(side: u32, price: Cents, size: Contracts) -> Cents
     ensures { result.0 ≡ sell_price side price.0 size.0 }
 {
-    if side == SELL {
-        if 0 < size.0 { price } else { Cents(NO_PRICE) }
+    if side == SELL && 0 < size.0 {
+        price
     } else {
         Cents(NO_PRICE)
     }
@@ -131,7 +121,7 @@ pub(crate) fn sell_price(side: u32, price: Cents, size: Contracts) -> Cents
 pub(crate) fn rests_for(tenant: u32, owner: u32, size: Contracts) -> bool
     ensures { result ≡ rests_for tenant owner size.0 }
 {
-    if 0 < size.0 { owner == tenant } else { false }
+    0 < size.0 && owner == tenant
 }
 
 // Whether a row is the resting order of that number, and that tenant's.
@@ -144,13 +134,5 @@ pub(crate) fn is_order(
 ) -> bool
     ensures { result ≡ is_order tenant number owner row_number size.0 }
 {
-    if 0 < size.0 {
-        if owner == tenant {
-            row_number == number
-        } else {
-            false
-        }
-    } else {
-        false
-    }
+    rests_for(tenant, owner, size) && row_number == number
 }
