@@ -4,18 +4,18 @@ use Rattle.std.proofs.lemmas.Grind.{common_steps}
 use Rattle.price.specs.Price.{valid}
 use Rattle.price.proofs.valid.Goals as goal
 
-pub returns-then-offer-gt0 : goal.returns-then-offer-gt0
+pub returns-in-true-true : goal.returns-in-true-true
 unfolding valid
-returns-then-offer-gt0 c = grind (arith, common_steps)
+returns-in-true-true c = grind (arith, common_steps)
 
-pub returns-else-offer-gt0 : goal.returns-else-offer-gt0
+pub returns-in-true-false : goal.returns-in-true-false
 unfolding valid
-returns-else-offer-gt0 c = grind (arith, common_steps)
+returns-in-true-false c = grind (arith, common_steps)
 
-pub returns-then-offer-gt0-2 : goal.returns-then-offer-gt0-2
+pub returns-in-false-true : goal.returns-in-false-true
 unfolding valid
-returns-then-offer-gt0-2 c = grind (arith, common_steps)
+returns-in-false-true c = grind (arith, common_steps)
 
-pub returns-else-offer-gt0-2 : goal.returns-else-offer-gt0-2
+pub returns-in-false-false : goal.returns-in-false-false
 unfolding valid
-returns-else-offer-gt0-2 c = grind (arith, common_steps)
+returns-in-false-false c = grind (arith, common_steps)
