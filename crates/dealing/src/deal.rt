@@ -2,6 +2,8 @@
 ghost use Rattle.std.specs.Prelude.{◌≡◌, List, ℕ, ◌<◌, length};
 ghost use Rattle.units.specs.Units.{tenants};
 ghost use Rattle.rows.specs.Rows.{rows};
+ghost use Rattle.entry.specs.Refusals.{turn_down_number};
+ghost use Rattle.judge.specs.Dispositions.{disposition_number};
 ghost use Rattle.book.specs.Book.{Book};
 ghost use Rattle.book.specs.Lent.{given, before, after, owning};
 ghost use Rattle.book.specs.Fit.{Whole};
@@ -14,14 +16,16 @@ ghost use Rattle.dealing.specs.declared.Series.{Series as Series·given};
 use crate::settle::settle_in_reach;
 use crate::{Came, Dealt, Series};
 use book::Records;
-use book::lookup::{Found, find};
+use book::lookup::{Lost, find};
 use book::quotes::{best_bid, best_offer};
 use book::resting::{free, rest};
 use checks::Standing;
 use entry::best_quotes::quotes_of;
+use entry::refusal::TurnDown;
 use entry::{CANCEL, Entry, Quotes};
 use judge::Judged;
 use judge::disposition::disposition;
+use judge::outcome::Disposition;
 use judge::verdict::judge;
 use rows::Column;
 use rows::passes::resting_rows;
@@ -29,12 +33,12 @@ use tally::Tallies;
 use units::{Cents, Contracts};
 
 // An entry turned down: nothing changes.
-fn turned_down(tallies: Tallies, code: u32) -> Dealt
-    ensures { (s : Series·given) (n : ℕ) (b : Book) (was : List ℕ) → made_of result b was ≡ turned_down (floor_of s tallies n b) was code }
+fn turned_down(tallies: Tallies, why: TurnDown) -> Dealt
+    ensures { (s : Series·given) (n : ℕ) (b : Book) (was : List ℕ) → made_of result b was ≡ turned_down (floor_of s tallies n b) was (turn_down_number why) }
 {
     Dealt {
-        tallies: tallies,
-        came: Came::TurnedDown(code),
+        tallies,
+        came: Came::TurnedDown(why),
     }
 }
 
@@ -54,17 +58,16 @@ fn cancel(
     ensures { owning sizes owners numbers
         (λ b c. (s : Series·given) (was : List ℕ) → made_of result c was ≡ cancels (floor_of s tallies number b) t was e) }
 {
-    let found = find(owners, numbers, sizes, t as u32, e.number, number);
-    match found {
-        Found::Rests(row) => {
+    match find(owners, numbers, sizes, t as u32, e.number, number) {
+        Ok(row) => {
             free(row, sizes);
             Dealt {
-                tallies: tallies,
+                tallies,
                 came: Came::Cancelled(e.number),
             }
         }
-        Found::GivenOut => turned_down(tallies, 18),
-        Found::NeverGiven => turned_down(tallies, 22),
+        Err(Lost::GivenOut) => turned_down(tallies, TurnDown::GivenOut),
+        Err(Lost::NeverGiven) => turned_down(tallies, TurnDown::NeverGiven),
     }
 }
 
@@ -91,14 +94,14 @@ fn rest_order(
         e.side, price, size, t as u32, number, sides, prices, sizes, owners, numbers,
     );
     Dealt {
-        tallies: tallies,
-        came: Came::Accepted(number, Contracts(0), 1, 0),
+        tallies,
+        came: Came::Accepted(number, Contracts(0), Disposition::Rests, 0),
     }
 }
 
-// What is left of an order rests at its limit by disposition 1, and else is cancelled.
+// What is left of an order rests at its limit, if its disposition says so, and else is cancelled.
 fn dispose(
-    d: u32,
+    d: Disposition,
     e: Entry,
     left: Contracts,
     t: usize,
@@ -111,12 +114,11 @@ fn dispose(
 )
     requires t_lt_tenants { t < tenants }
     requires whole { Whole (given sides prices sizes owners numbers) }
-    ensures { after sides prices sizes owners numbers ≡ disposed d e left.0 t number (before sides prices sizes owners numbers) }
+    ensures { after sides prices sizes owners numbers ≡ disposed (disposition_number d) e left.0 t number (before sides prices sizes owners numbers) }
 {
-    if d == 1 {
-        let price = e.price;
+    if d == Disposition::Rests {
         rest(
-            e.side, price, left, t as u32, number, sides, prices, sizes, owners, numbers,
+            e.side, e.price, left, t as u32, number, sides, prices, sizes, owners, numbers,
         );
     }
 }
@@ -141,10 +143,9 @@ fn trade_order(
     ensures { made result sides prices sizes owners numbers records
         ≡ trades (met series tallies number sides prices sizes owners numbers) t e bound records.old }
 {
-    let terms = series.terms;
     let done = settle_in_reach(
         tallies,
-        terms.allocation,
+        series.terms.allocation,
         t,
         e,
         bound,
@@ -157,13 +158,12 @@ fn trade_order(
         records,
     );
     let left = Contracts(e.size.0 - done.filled.0);
-    let d = disposition(e, quotes, terms, left);
+    let d = disposition(e, quotes, series.terms, left);
     dispose(d, e, left, t, number, sides, prices, sizes, owners, numbers);
     let counted = done.tallies;
-    let filled = done.filled;
     Dealt {
         tallies: counted,
-        came: Came::Accepted(number, filled, d, done.fills),
+        came: Came::Accepted(number, done.filled, d, done.fills),
     }
 }
 
@@ -187,19 +187,16 @@ fn order(
 {
     let bid = best_bid(sides, prices, sizes);
     let offer = best_offer(sides, prices, sizes);
-    let away = series.away;
-    let quotes = quotes_of(bid, offer, away);
+    let quotes = quotes_of(bid, offer, series.away);
     let resting = resting_rows(owners, sizes, t as u32);
     let standing = Standing {
         opened: series.opened,
-        resting: resting,
+        resting,
         next: number,
     };
-    let terms = series.terms;
-    let verdict = judge(e, quotes, terms, standing);
-    match verdict {
-        Judged::TurnedDown(code) => turned_down(tallies, code),
-        Judged::Rests(o) => rest_order(
+    match judge(e, quotes, series.terms, standing) {
+        Err(why) => turned_down(tallies, why),
+        Ok(Judged::Rests(o)) => rest_order(
             tallies,
             number as u32,
             t,
@@ -210,7 +207,7 @@ fn order(
             owners,
             numbers,
         ),
-        Judged::Trades(o, bound) => trade_order(
+        Ok(Judged::Trades(o, bound)) => trade_order(
             series,
             tallies,
             number as u32,

@@ -3,45 +3,34 @@ ghost use Rattle.std.specs.Prelude.{◌≡◌};
 ghost use Rattle.book.specs.Lent.{given_sizing, before_sizing, after_sizing, quoting};
 ghost use Rattle.opening.specs.Opening.{after_opening, opening_written};
 ghost use Rattle.dealing.specs.Open.{CanOpen, counted_of, choice_in, way_of};
+ghost use Rattle.dealing.specs.Way.{way_told};
 
 use crate::Series;
 use crate::credit::credit;
 use book::Records;
 use book::quotes::crosses;
+use entry::refusal::Refusal;
 use opening::matching::open_at;
-use price::{Choice, Sources, choose};
+use price::{Sources, choose};
 use rows::{Column, ROWS};
 use tally::Tallies;
 use units::{Cents, Contracts};
 
-// Which way an open goes: refused by a number; quiet, where no resting buy is at or above a resting sell; or at the
-// price chosen.
-#[derive(Clone, Copy)]
-pub enum Way {
-    Refused(u32),
-    Quiet,
-    At(Cents),
-}
-
 // The first valid opening price by the grid, the away quote, the last print and the previous close.
-fn choice(s: Series) -> Choice
+fn choice(s: Series) -> Option<Cents>
     ensures { result ≡ choice_in s }
 {
-    let grid = s.terms.grid;
-    let bid = s.away.bid;
-    let offer = s.away.offer;
-    let print = s.terms.print;
-    let close = s.terms.close;
     choose(Sources {
-        grid: grid,
-        bid: bid,
-        offer: offer,
-        print: print,
-        close: close,
+        grid: s.terms.grid,
+        bid: s.away.bid,
+        offer: s.away.offer,
+        print: s.terms.print,
+        close: s.terms.close,
     })
 }
 
-// The refusals in the order of checking; a price is asked for only where the book crosses.
+// Which way an open goes: refused, in the order of checking; or at a price, asked for only where the book crosses; or
+// quiet, where no resting buy is at or above a resting sell.
 pub fn which_way(
     accepted: bool,
     s: Series,
@@ -49,28 +38,24 @@ pub fn which_way(
     sides: &Column,
     prices: &Column,
     sizes: &Column,
-) -> Way
-    ensures { quoting sides prices sizes (λ b. result ≡ way_of accepted s b lent) }
+) -> Result<Option<Cents>, Refusal>
+    ensures { quoting sides prices sizes (λ b. way_told result ≡ way_of accepted s b lent) }
 {
-    if accepted {
-        let opened = s.opened;
-        if opened {
-            return Way::Refused(9);
-        }
-        if lent < ROWS {
-            return Way::Refused(6);
-        }
-        if crosses(sides, prices, sizes) {
-            let first = choice(s);
-            match first {
-                Choice::At(price) => Way::At(price),
-                Choice::NoneValid => Way::Refused(20),
-            }
-        } else {
-            Way::Quiet
-        }
-    } else {
-        Way::Refused(21)
+    if !accepted {
+        return Err(Refusal::NothingSet);
+    }
+    if s.opened {
+        return Err(Refusal::AlreadyOpen);
+    }
+    if lent < ROWS {
+        return Err(Refusal::FewRecords);
+    }
+    if !crosses(sides, prices, sizes) {
+        return Ok(None);
+    }
+    match choice(s) {
+        Some(price) => Ok(Some(price)),
+        None => Err(Refusal::NoValidPrice),
     }
 }
 
@@ -99,7 +84,7 @@ pub fn open_book(
     ensures records_after { records.new ≡ opening_written (before_sizing sides prices sizes owners numbers) price.0 records.old }
     ensures value { result ≡ counted_of tallies (before_sizing sides prices sizes owners numbers) price.0 }
 {
-    let mut shared = [0u32; 216];
+    let mut shared = [0; ROWS];
     let done = open_at(
         price,
         sides,
@@ -111,10 +96,9 @@ pub fn open_book(
         records,
     );
     let counted = credit(tallies, sides, owners, &shared);
-    let volume = done.volume;
     Counted {
         tallies: counted,
-        volume: volume,
+        volume: done.volume,
         fills: done.fills,
     }
 }

@@ -9,9 +9,8 @@ use crate::credit::{credit, credit_row};
 use book::Records;
 use book::trading::trade;
 use entry::{Entry, Quotes};
-use rows::{BUY, Column, SELL};
+use rows::{BUY, Column, ROWS, SELL};
 use tally::Tallies;
-use units::words::either;
 use units::{Cents, Contracts};
 
 // The tallies after the trade, contracts filled, and how many fill records were written.
@@ -51,7 +50,7 @@ fn settle(
         ≡ trade_written (before_sizing sides prices sizes owners numbers) (opposite e) bound.0 e.size.0 allocation records.old }
     ensures value { result ≡ settled_of tallies t e (before_sizing sides prices sizes owners numbers) bound.0 allocation }
 {
-    let mut shared = [0u32; 216];
+    let mut shared = [0; ROWS];
     let side = other_side(e.side);
     let size = e.size;
     let done = trade(
@@ -70,8 +69,8 @@ fn settle(
     let filled = done.filled;
     if filled.0 == 0 {
         return Settled {
-            tallies: tallies,
-            filled: filled,
+            tallies,
+            filled,
             fills: done.fills,
         };
     }
@@ -79,7 +78,7 @@ fn settle(
     let all = credit(own, sides, owners, &shared);
     Settled {
         tallies: all,
-        filled: filled,
+        filled,
         fills: done.fills,
     }
 }
@@ -89,9 +88,9 @@ fn out_of_reach(side: u32, bound: Cents, q: Quotes) -> bool
     ensures { result ≡ out_of_reach side bound.0 q }
 {
     if side == BUY {
-        either(q.nbo.0 == 0, bound.0 < q.nbo.0)
+        q.nbo.0 == 0 || bound.0 < q.nbo.0
     } else {
-        either(q.nbb.0 == 0, q.nbb.0 < bound.0)
+        q.nbb.0 == 0 || q.nbb.0 < bound.0
     }
 }
 
@@ -121,7 +120,7 @@ pub(crate) fn settle_in_reach(
 {
     if out_of_reach(e.side, bound, quotes) {
         return Settled {
-            tallies: tallies,
+            tallies,
             filled: Contracts(0),
             fills: 0,
         };
