@@ -6,8 +6,8 @@ use Rattle.book.specs.declared.Book.{Book as Columns}
 use Rattle.tally.specs.declared.Tally.{Tally}
 use Rattle.dealing.specs.declared.Series.{Series}
 use Rattle.dealing.specs.declared.Dealt.{Dealt}
-use Rattle.dealing.specs.declared.Came.{Came}
-use Rattle.dealing.specs.declared.Came.TheVariants as came
+use Rattle.dealing.specs.Came.{Came, came_of}
+use Rattle.dealing.specs.Came as came
 
 -- what an entry meets: the series, the tallies, the number that an order is given if it is accepted, and the book
 pub record Floor : Type 0 where
@@ -27,7 +27,7 @@ abbrev pub floor_of : Series → List Tally → ℕ → Book → Floor
 floor_of series tallies number book = record { series = series; tallies = tallies; number = number; book = book }
 
 abbrev pub made_of : Dealt → Book → List ℕ → Made
-made_of r book records = record { book = book; tallies = r.tallies; came = r.came; records = records }
+made_of r book records = record { book = book; tallies = r.tallies; came = came_of r.came; records = records }
 
 -- an order that is accepted uses up its number
 abbrev pub next_after : ℕ → Came → ℕ

@@ -1,6 +1,8 @@
 // An entry, dealt with: turned down, cancelling, resting or trading.
 ghost use Rattle.std.specs.Prelude.{◌≡◌, List, ℕ, ◌<◌};
 ghost use Rattle.units.specs.Units.{tenants};
+ghost use Rattle.entry.specs.Refusals.{turn_down_number};
+ghost use Rattle.judge.specs.Dispositions.{disposition_number};
 ghost use Rattle.book.specs.Lent.{book_in};
 ghost use Rattle.book.specs.Fit.{Whole};
 ghost use Rattle.dealing.specs.Floor.{floor_of, met, made_of, made};
@@ -12,25 +14,27 @@ ghost use Rattle.dealing.specs.declared.Series.{Series as Series·given};
 
 use crate::settle::settle_in_reach;
 use crate::{Came, Dealt, Series};
-use book::lookup::Found;
+use book::lookup::Lost;
 use book::{Book, Records};
 use checks::Standing;
 use entry::best_quotes::quotes_of;
+use entry::refusal::TurnDown;
 use entry::{CANCEL, Entry, Quotes};
 use judge::Judged;
 use judge::disposition::disposition;
+use judge::outcome::Disposition;
 use judge::verdict::judge;
 use rows::passes::resting_rows;
 use tally::Tallies;
 use units::{Cents, Contracts};
 
 // An entry turned down: nothing changes.
-fn turned_down(tallies: Tallies, code: u32) -> Dealt
-    ensures { (s : Series·given) (n : ℕ) (b : Book·given) (was : List ℕ) → made_of result b was ≡ turned_down (floor_of s tallies n b) was code }
+fn turned_down(tallies: Tallies, why: TurnDown) -> Dealt
+    ensures { (s : Series·given) (n : ℕ) (b : Book·given) (was : List ℕ) → made_of result b was ≡ turned_down (floor_of s tallies n b) was (turn_down_number why) }
 {
     Dealt {
-        tallies: tallies,
-        came: Came::TurnedDown(code),
+        tallies,
+        came: Came::TurnedDown(why),
     }
 }
 
@@ -42,17 +46,16 @@ fn cancel(tallies: Tallies, number: u64, t: usize, e: Entry, book: &mut Book) ->
     ensures { (s : Series·given) (was : List ℕ) → made_of result (book_in book.new) was
         ≡ cancels (floor_of s tallies number (book_in book.old)) t was e }
 {
-    let found = book.find(t as u32, e.number, number);
-    match found {
-        Found::Rests(row) => {
+    match book.find(t as u32, e.number, number) {
+        Ok(row) => {
             book.free(row);
             Dealt {
-                tallies: tallies,
+                tallies,
                 came: Came::Cancelled(e.number),
             }
         }
-        Found::GivenOut => turned_down(tallies, 18),
-        Found::NeverGiven => turned_down(tallies, 22),
+        Err(Lost::GivenOut) => turned_down(tallies, TurnDown::GivenOut),
+        Err(Lost::NeverGiven) => turned_down(tallies, TurnDown::NeverGiven),
     }
 }
 
@@ -63,24 +66,21 @@ fn rest_order(tallies: Tallies, number: u32, t: usize, e: Entry, book: &mut Book
     ensures { (s : Series·given) (was : List ℕ) → made_of result (book_in book.new) was
         ≡ rests (met s tallies number book.old) t was e }
 {
-    let price = e.price;
-    let size = e.size;
-    book.rest(e.side, price, size, t as u32, number);
+    book.rest(e.side, e.price, e.size, t as u32, number);
     Dealt {
-        tallies: tallies,
-        came: Came::Accepted(number, Contracts(0), 1, 0),
+        tallies,
+        came: Came::Accepted(number, Contracts(0), Disposition::Rests, 0),
     }
 }
 
-// What is left of an order rests at its limit by disposition 1, and else is cancelled.
-fn dispose(d: u32, e: Entry, left: Contracts, t: usize, number: u32, book: &mut Book)
+// What is left of an order rests at its limit, if its disposition says so, and else is cancelled.
+fn dispose(d: Disposition, e: Entry, left: Contracts, t: usize, number: u32, book: &mut Book)
     requires t_lt_tenants { t < tenants }
     requires whole { Whole (book_in book.old) }
-    ensures { book_in book.new ≡ disposed d e left.0 t number (book_in book.old) }
+    ensures { book_in book.new ≡ disposed (disposition_number d) e left.0 t number (book_in book.old) }
 {
-    if d == 1 {
-        let price = e.price;
-        book.rest(e.side, price, left, t as u32, number);
+    if d == Disposition::Rests {
+        book.rest(e.side, e.price, left, t as u32, number);
     }
 }
 
@@ -100,10 +100,9 @@ fn trade_order(
     ensures { made result book.new records.new
         ≡ trades (met series tallies number book.old) t e bound records.old }
 {
-    let terms = series.terms;
     let done = settle_in_reach(
         tallies,
-        terms.allocation,
+        series.terms.allocation,
         t,
         e,
         bound,
@@ -112,13 +111,12 @@ fn trade_order(
         records,
     );
     let left = Contracts(e.size.0 - done.filled.0);
-    let d = disposition(e, quotes, terms, left);
+    let d = disposition(e, quotes, series.terms, left);
     dispose(d, e, left, t, number, book);
     let counted = done.tallies;
-    let filled = done.filled;
     Dealt {
         tallies: counted,
-        came: Came::Accepted(number, filled, d, done.fills),
+        came: Came::Accepted(number, done.filled, d, done.fills),
     }
 }
 
@@ -138,20 +136,17 @@ fn order(
 {
     let bid = book.best_bid();
     let offer = book.best_offer();
-    let away = series.away;
-    let quotes = quotes_of(bid, offer, away);
+    let quotes = quotes_of(bid, offer, series.away);
     let resting = resting_rows(&book.owners, &book.sizes, t as u32);
     let standing = Standing {
         opened: series.opened,
-        resting: resting,
+        resting,
         next: number,
     };
-    let terms = series.terms;
-    let verdict = judge(e, quotes, terms, standing);
-    match verdict {
-        Judged::TurnedDown(code) => turned_down(tallies, code),
-        Judged::Rests(o) => rest_order(tallies, number as u32, t, o, book),
-        Judged::Trades(o, bound) => trade_order(
+    match judge(e, quotes, series.terms, standing) {
+        Err(why) => turned_down(tallies, why),
+        Ok(Judged::Rests(o)) => rest_order(tallies, number as u32, t, o, book),
+        Ok(Judged::Trades(o, bound)) => trade_order(
             series,
             tallies,
             number as u32,

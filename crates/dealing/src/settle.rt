@@ -8,9 +8,8 @@ ghost use Rattle.dealing.specs.Reach.{Quoted, out_of_reach};
 use crate::credit::{credit, credit_row};
 use book::{Book, Records};
 use entry::{Entry, Quotes};
-use rows::{BUY, SELL};
+use rows::{BUY, ROWS, SELL};
 use tally::Tallies;
-use units::words::either;
 use units::{Cents, Contracts};
 
 // The tallies after the trade, contracts filled, and how many fill records were written.
@@ -46,15 +45,15 @@ fn settle(
         ≡ trade_written (book_in book.old) (opposite e) bound.0 e.size.0 allocation records.old }
     ensures value { result ≡ settled_of tallies t e (book_in book.old) bound.0 allocation }
 {
-    let mut shared = [0u32; 216];
+    let mut shared = [0; ROWS];
     let side = other_side(e.side);
     let size = e.size;
     let done = book.trade(allocation, side, bound, size, &mut shared, records);
     let filled = done.filled;
     if filled.0 == 0 {
         return Settled {
-            tallies: tallies,
-            filled: filled,
+            tallies,
+            filled,
             fills: done.fills,
         };
     }
@@ -62,7 +61,7 @@ fn settle(
     let all = credit(own, &book.sides, &book.owners, &shared);
     Settled {
         tallies: all,
-        filled: filled,
+        filled,
         fills: done.fills,
     }
 }
@@ -72,9 +71,9 @@ fn out_of_reach(side: u32, bound: Cents, q: Quotes) -> bool
     ensures { result ≡ out_of_reach side bound.0 q }
 {
     if side == BUY {
-        either(q.nbo.0 == 0, bound.0 < q.nbo.0)
+        q.nbo.0 == 0 || bound.0 < q.nbo.0
     } else {
-        either(q.nbb.0 == 0, q.nbb.0 < bound.0)
+        q.nbb.0 == 0 || q.nbb.0 < bound.0
     }
 }
 
@@ -100,7 +99,7 @@ pub(crate) fn settle_in_reach(
 {
     if out_of_reach(e.side, bound, quotes) {
         return Settled {
-            tallies: tallies,
+            tallies,
             filled: Contracts(0),
             fills: 0,
         };

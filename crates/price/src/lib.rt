@@ -41,16 +41,11 @@ fn between(bid: Cents, offer: Cents, price: Cents) -> bool
 fn valid(bid: Cents, offer: Cents, price: Cents) -> bool
     ensures { result ≡ valid bid.0 offer.0 price.0 }
 {
-    if 0 < bid.0 {
-        if 0 < offer.0 {
-            between(bid, offer, price)
-        } else {
-            bid.0 <= price.0
-        }
-    } else if 0 < offer.0 {
-        price.0 <= offer.0
-    } else {
-        true
+    match (0 < bid.0, 0 < offer.0) {
+        (true, true) => between(bid, offer, price),
+        (true, false) => bid.0 <= price.0,
+        (false, true) => price.0 <= offer.0,
+        (false, false) => true,
     }
 }
 

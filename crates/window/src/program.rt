@@ -121,15 +121,11 @@ pub fn status_after(failed: bool) -> Status
     }
 }
 
-// How it stands where what it read has stopped by a number, 0 being the end.
-pub fn status_of(code: u32) -> Status
-    ensures { status_byte result ≡ status_of code }
+// How it stands where what it read has ended well or is refused.
+pub fn status_of(well: bool) -> Status
+    ensures { status_byte result ≡ status_of well }
 {
-    if code > 0 {
-        Status::Refused
-    } else {
-        Status::Ended
-    }
+    if well { Status::Ended } else { Status::Refused }
 }
 
 // Tells the refused line, where there is one, on standard error: a word with the space behind it comes first.
