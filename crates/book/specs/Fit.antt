@@ -26,5 +26,5 @@ pub record Fit (prices sizes numbers : List ℕ) : Type 0 where
   pub apart : Apart sizes numbers
 
 -- the same of a book
-abbrev pub Fits : Book → Type 0
-Fits b = Fit b.prices b.sizes b.numbers
+abbrev pub FitBook : Book → Type 0
+FitBook b = Fit b.prices b.sizes b.numbers

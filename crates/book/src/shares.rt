@@ -6,7 +6,7 @@ ghost use Rattle.book.specs.Lent.{book_in};
 ghost use Rattle.book.specs.Book.{within_bound};
 ghost use Rattle.book.specs.Allocation.{fill, class_of};
 ghost use Rattle.book.specs.Trading.{reach};
-ghost use Rattle.book.specs.Fit.{Fits};
+ghost use Rattle.book.specs.Fit.{FitBook};
 
 use crate::Book;
 use allocation::reach::{edge_of, in_line};
@@ -27,7 +27,7 @@ impl Book {
         q: Contracts,
         all: Total,
     ) -> Column
-        requires fit { Fits (book_in self.now) }
+        requires fit { FitBook (book_in self.now) }
         requires all_value { all.0 ≡ within_bound (book_in self.now) side bound.0 }
         ensures { result ≡ table (fill (reach (book_in self.now) side bound.0) q.0 (class_of allocation)) rows }
     {

@@ -5,7 +5,7 @@ ghost use Rattle.rows.specs.Rows.{rows};
 ghost use Rattle.book.specs.Lent.{book_in};
 ghost use Rattle.book.specs.Trading.{traded, after_trade, trade_written};
 ghost use Rattle.book.specs.Answers.{traded_of};
-ghost use Rattle.book.specs.Fit.{Fits};
+ghost use Rattle.book.specs.Fit.{FitBook};
 ghost use Rattle.book.specs.Records.{fields};
 
 use crate::{Book, Records};
@@ -49,7 +49,7 @@ impl Book {
         shared: &mut Column,
         lent: &mut Records,
     ) -> Traded
-        requires fit { Fits (book_in self.old) }
+        requires fit { FitBook (book_in self.old) }
         requires lent_len { length lent.old ≡ fields * rows }
         ensures numbers_value { book_in self.new ≡ after_trade (book_in self.old) side bound.0 q.0 allocation }
         ensures lent_after { lent.new ≡ trade_written (book_in self.old) side bound.0 q.0 allocation lent.old }

@@ -6,7 +6,7 @@ ghost use Rattle.units.specs.Units.{most32};
 ghost use Rattle.rows.specs.Rows.{rows};
 ghost use Rattle.book.specs.Book.{within_bound};
 ghost use Rattle.book.specs.Lent.{book_in};
-ghost use Rattle.book.specs.Fit.{Fits};
+ghost use Rattle.book.specs.Fit.{FitBook};
 ghost use Rattle.book.specs.Records.{fields};
 ghost use Rattle.opening.specs.Opening.{both_fill, matched, after_opening, opening_written};
 ghost use Rattle.opening.specs.Answers.{matched_of};
@@ -47,7 +47,7 @@ fn lesser_of(buys: Total, sells: Total) -> Contracts
 
 // What each row trades where both sides fill q contracts, by time in every class.
 fn fills_at(book: &Book, price: Cents, q: Contracts, buys: Total, sells: Total) -> Column
-    requires fit { Fits (book_in book.now) }
+    requires fit { FitBook (book_in book.now) }
     requires buys_value { buys.0 ≡ within_bound (book_in book.now) 1 price.0 }
     requires sells_value { sells.0 ≡ within_bound (book_in book.now) 2 price.0 }
     ensures { result ≡ table (both_fill (book_in book.now) price.0 q.0) rows }
@@ -60,7 +60,7 @@ fn fills_at(book: &Book, price: Cents, q: Contracts, buys: Total, sells: Total) 
 // The opening at a price: each side fills the volume, what would lock or cross the book is cancelled; what each row
 // trades and the records, all at the price, are written to the lent memory.
 pub fn open_at(book: &mut Book, price: Cents, shared: &mut Column, lent: &mut Records) -> Matched
-    requires fit { Fits (book_in book.old) }
+    requires fit { FitBook (book_in book.old) }
     requires lent_len { length lent.old ≡ fields * rows }
     ensures numbers_value { book_in book.new ≡ after_opening (book_in book.old) price.0 }
     ensures lent_after { lent.new ≡ opening_written (book_in book.old) price.0 lent.old }
