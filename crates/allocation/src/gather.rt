@@ -36,8 +36,6 @@ fn put_after(
     held: &mut Column,
 ) -> usize
     requires count_lt_rows { count < rows }
-    requires keys_len { length keys.old ≡ rows }
-    requires held_len { length held.old ≡ rows }
     ensures keys_after { keys.new ≡ put_after taken k keys.old count }
     ensures held_after { held.new ≡ put_after taken size.0 held.old count }
     ensures value { result ≡ count + keep taken 1 }
@@ -61,8 +59,6 @@ pub(crate) fn in_reach(
     keys: &mut Column,
     held: &mut Column,
 ) -> usize
-    requires keys_len { length keys.old ≡ rows }
-    requires held_len { length held.old ≡ rows }
     ensures { Gathered (keys_in side prices) (opens_in side bound.0 sides prices sizes) rows keys.new held.new result }
 {
     let mut count: usize = 0;
@@ -87,8 +83,6 @@ pub(crate) fn at_key(
     orders: &mut Column,
     held: &mut Column,
 ) -> usize
-    requires orders_len { length orders.old ≡ rows }
-    requires held_len { length held.old ≡ rows }
     ensures { Gathered (found numbers) (level_in side bound.0 c sides prices sizes) rows orders.new held.new result }
 {
     let mut count: usize = 0;
@@ -139,8 +133,6 @@ fn joined(best: Best, floor: u64, k: u64, size: Contracts) -> Best
 // The best key from the floor on among the first `count`, and what they hold there: in one pass.
 pub(crate) fn best_from(keys: &Column, held: &Column, count: usize, top: u64, floor: u64) -> Best
     requires count_le_rows { count ≤ rows }
-    requires keys_len { length keys.now ≡ rows }
-    requires held_len { length held.now ≡ rows }
     requires floor_le_top { floor ≤ top }
     ensures key_value { result.key ≡ best_from count top (found keys) (found held) floor }
     ensures total_value { result.total.0 ≡ sum_to (same (found keys) result.key (found held)) count }

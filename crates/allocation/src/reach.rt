@@ -23,8 +23,6 @@ pub struct Edge {
 // is filled whole.
 fn edge_among(keys: &Column, held: &Column, count: usize, top: u64, q: Contracts) -> Edge
     requires count_le_rows { count ≤ rows }
-    requires keys_len { length keys.now ≡ rows }
-    requires held_len { length held.now ≡ rows }
     requires top_le_no_number { top ≤ no_number }
     requires keys_below { KeysBelow top count keys.now held.now }
     ensures { EdgeAt count top (found keys) (found held) q.0 result.key result.left.0 }

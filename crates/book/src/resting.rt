@@ -2,7 +2,6 @@
 ghost use Rattle.std.specs.Prelude.{◌≡◌};
 ghost use Rattle.book.specs.Book.{rested, freed};
 ghost use Rattle.book.specs.Lent.{book_in};
-ghost use Rattle.book.specs.Fit.{Whole};
 
 use crate::Book;
 use rows::ROWS;
@@ -12,7 +11,6 @@ use units::{Cents, Contracts};
 impl Book {
     // An order rests in the first free row; a full book stays as it is.
     pub fn rest(&mut self, side: u32, price: Cents, size: Contracts, owner: u32, number: u32)
-        requires { Whole (book_in self.old) }
         ensures { book_in self.new ≡ rested (book_in self.old) side price.0 size.0 owner number }
     {
         let row = free_row(&self.sizes);
@@ -27,7 +25,6 @@ impl Book {
 
     // A cancel frees the row; past the last there is none.
     pub fn free(&mut self, row: usize)
-        requires { Whole (book_in self.old) }
         ensures { book_in self.new ≡ freed (book_in self.old) row }
     {
         if row < ROWS {

@@ -22,7 +22,6 @@ pub struct Traded {
 
 // Takes what each row traded out of its size.
 pub fn remove(quantities: &Column, sizes: &mut Column)
-    requires { length sizes.old ≡ rows }
     ensures { sizes.new ≡ table (λ i. at sizes.old i - at quantities.now i) rows }
 {
     for i in 0..ROWS {
@@ -50,7 +49,6 @@ impl Book {
         lent: &mut Records,
     ) -> Traded
         requires fit { FitBook (book_in self.old) }
-        requires lent_len { length lent.old ≡ fields * rows }
         ensures numbers_value { book_in self.new ≡ after_trade (book_in self.old) side bound.0 q.0 allocation }
         ensures lent_after { lent.new ≡ trade_written (book_in self.old) side bound.0 q.0 allocation lent.old }
         ensures shared_after { shared.new ≡ table (traded (book_in self.old) side bound.0 q.0 allocation) rows }

@@ -4,7 +4,6 @@ ghost use Rattle.units.specs.Units.{tenants};
 ghost use Rattle.entry.specs.Refusals.{turn_down_number};
 ghost use Rattle.judge.specs.Dispositions.{disposition_number};
 ghost use Rattle.book.specs.Lent.{book_in};
-ghost use Rattle.book.specs.Fit.{Whole};
 ghost use Rattle.dealing.specs.Floor.{floor_of, met, made_of, made};
 ghost use Rattle.dealing.specs.Deal.{turned_down, cancels, rests, trades, ordered, dealt};
 ghost use Rattle.dealing.specs.Demands.{CanTrade, CanOrder, CanDeal};
@@ -42,7 +41,6 @@ fn turned_down(tallies: Tallies, why: TurnDown) -> Dealt
 // number is.
 fn cancel(tallies: Tallies, number: u64, t: usize, e: Entry, book: &mut Book) -> Dealt
     requires t_lt_tenants { t < tenants }
-    requires whole { Whole (book_in book.old) }
     ensures { (s : Series·given) (was : List ℕ) → made_of result (book_in book.new) was
         ≡ cancels (floor_of s tallies number (book_in book.old)) t was e }
 {
@@ -62,7 +60,6 @@ fn cancel(tallies: Tallies, number: u64, t: usize, e: Entry, book: &mut Book) ->
 // Before the opening a day limit simply rests.
 fn rest_order(tallies: Tallies, number: u32, t: usize, e: Entry, book: &mut Book) -> Dealt
     requires t_lt_tenants { t < tenants }
-    requires whole { Whole (book_in book.old) }
     ensures { (s : Series·given) (was : List ℕ) → made_of result (book_in book.new) was
         ≡ rests (met s tallies number book.old) t was e }
 {
@@ -76,7 +73,6 @@ fn rest_order(tallies: Tallies, number: u32, t: usize, e: Entry, book: &mut Book
 // What is left of an order rests at its limit, if its disposition says so, and else is cancelled.
 fn dispose(d: Disposition, e: Entry, left: Contracts, t: usize, number: u32, book: &mut Book)
     requires t_lt_tenants { t < tenants }
-    requires whole { Whole (book_in book.old) }
     ensures { book_in book.new ≡ disposed (disposition_number d) e left.0 t number (book_in book.old) }
 {
     if d == Disposition::Rests {

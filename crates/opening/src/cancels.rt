@@ -61,7 +61,6 @@ fn kept(cut: Cut, side: u32, price: Cents, size: Contracts) -> Contracts
 
 // Cancels what would lock or cross the open book.
 pub(crate) fn cancel(price: Cents, sides: &Column, prices: &Column, sizes: &mut Column)
-    requires { length sizes.old ≡ rows }
     ensures { sizes.new ≡ table (kept_of rows (found sides) (found prices) (at sizes.old) price.0) rows }
 {
     let cut = cut_at(price, sides, prices, sizes);

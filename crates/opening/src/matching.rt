@@ -61,7 +61,6 @@ fn fills_at(book: &Book, price: Cents, q: Contracts, buys: Total, sells: Total) 
 // trades and the records, all at the price, are written to the lent memory.
 pub fn open_at(book: &mut Book, price: Cents, shared: &mut Column, lent: &mut Records) -> Matched
     requires fit { FitBook (book_in book.old) }
-    requires lent_len { length lent.old ≡ fields * rows }
     ensures numbers_value { book_in book.new ≡ after_opening (book_in book.old) price.0 }
     ensures lent_after { lent.new ≡ opening_written (book_in book.old) price.0 lent.old }
     ensures shared_after { shared.new ≡ table (matched (book_in book.old) price.0) rows }

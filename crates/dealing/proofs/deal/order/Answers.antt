@@ -2,7 +2,6 @@
 use mathlib.Core.Path.{◌≡◌, ◌∙◌, ap}
 use native.Mathlib.Omega.{arith}
 use Rattle.std.specs.Prelude.{Result, Ok}
-use Rattle.book.specs.SoundLaws.{sound_whole}
 use Rattle.entry.specs.declared.refusal.TurnDown.{TurnDown}
 use Rattle.judge.specs.declared.Judged.{Judged}
 use Rattle.judge.specs.declared.Judged.TheVariants as passed
@@ -34,7 +33,7 @@ overflow_cast-number-in-Ok-Trades c =
     omega (arith, ((told (goal.at.overflow_cast-number-in-Ok-Trades c).After-judge).ready _ _ trades).numbered)
 
 pub rest_order-requires : goal.rest_order-requires
-rest_order-requires c = record { t_lt_tenants = c.requires.tenant; whole = sound_whole c.requires.ready.book }
+rest_order-requires c = record { t_lt_tenants = c.requires.tenant }
 
 pub trade_order-requires : goal.trade_order-requires
 trade_order-requires c =

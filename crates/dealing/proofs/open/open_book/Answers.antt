@@ -10,7 +10,7 @@ use Rattle.dealing.proofs.open.open_book.Goals as goal
 pub open_at-done-requires : goal.open_at-done-requires
 open_at-done-requires c =
     let can = c.requires in
-    record { fit = sound_fit can.sound can.next_most; lent_len = can.records_long }
+    record { fit = sound_fit can.sound can.next_most }
 
 pub credit-counted-requires : goal.credit-counted-requires
 credit-counted-requires c =

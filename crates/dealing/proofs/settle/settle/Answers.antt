@@ -9,7 +9,7 @@ use Rattle.dealing.proofs.settle.settle.Goals as goal
 pub trade-done-requires : goal.trade-done-requires
 trade-done-requires c =
     let can = c.requires in
-    record { fit = sound_fit can.sound can.next_most; lent_len = can.records_long }
+    record { fit = sound_fit can.sound can.next_most }
 
 pub returns-then-filled-eq0 : goal.returns-then-filled-eq0
 returns-then-filled-eq0 c =
