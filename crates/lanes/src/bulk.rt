@@ -15,15 +15,11 @@ pub fn well_counted(count: u32, numbers: &[u32]) -> bool
     1 <= count && count <= BULK && numbers.len() == ENTRY_NUMBERS * count as usize
 }
 
+// Whether an entry of a bulk is malformed.
 pub fn some_malformed(count: u32, numbers: &[u32]) -> bool
     ensures { result ≡ some_malformed count numbers.now }
 {
-    for j in 0..count as usize {
-        if malformed(given(numbers, j)) {
-            return true;
-        }
-    }
-    false
+    (0..count as usize).any(|j| malformed(given(numbers, j)))
 }
 
 // Waiting plus count above 64.

@@ -69,9 +69,7 @@ fn put(entries: &mut Entries, k: usize, ns: &[u32], j: usize)
 {
     let to = k * ENTRY_NUMBERS;
     let from = j * ENTRY_NUMBERS;
-    for i in 0..ENTRY_NUMBERS {
-        entries[to + i] = ns[from + i];
-    }
+    entries[to..to + ENTRY_NUMBERS].copy_from_slice(&ns[from..from + ENTRY_NUMBERS]);
 }
 
 // A bulk is put behind the entries waiting in a lane, in its order.
