@@ -23,12 +23,19 @@ pub record Marked (l : Lanes) : Type 0 where
   pub len : (t : ℕ) → t < tenants → len_of l t ≤ depth
   pub place : l.place < tenants
 
+-- no entry waits in empty lanes, and their heads stand at 0
+pub empty_head : (t : ℕ) → t < tenants → head_of empty t ≡ 0
+empty_head t p = ap (λ x. x.head) (get_or-replicate tenants t (lane_of 0 0) (lane_of 0 0) p)
+
+pub empty_len : (t : ℕ) → t < tenants → len_of empty t ≡ 0
+empty_len t p = ap (λ x. x.len) (get_or-replicate tenants t (lane_of 0 0) (lane_of 0 0) p)
+
 pub empty_marked : Marked empty
 empty_marked = record {
   heads_long = length-map empty.lanes (λ x. x.head) ∙ length-replicate {A = Lane} tenants (lane_of 0 0);
   lens_long = length-map empty.lanes (λ x. x.len) ∙ length-replicate {A = Lane} tenants (lane_of 0 0);
-  head = λ t p. rw (get_or-replicate {A = Lane} tenants t (lane_of 0 0) (lane_of 0 0)) (omega arith);
-  len = λ t p. rw (get_or-replicate {A = Lane} tenants t (lane_of 0 0) (lane_of 0 0)) (omega arith);
+  head = λ t p. omega (arith, empty_head t p);
+  len = λ t p. omega (arith, empty_len t p);
   place = omega arith;
 }
 
