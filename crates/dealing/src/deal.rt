@@ -88,10 +88,8 @@ fn rest_order(
     ensures { (s : Series·given) (was : List ℕ) → made_of result (after sides prices sizes owners numbers) was
         ≡ rests (met s tallies number sides prices sizes owners numbers) t was e }
 {
-    let price = e.price;
-    let size = e.size;
     rest(
-        e.side, price, size, t as u32, number, sides, prices, sizes, owners, numbers,
+        e.side, e.price, e.size, t as u32, number, sides, prices, sizes, owners, numbers,
     );
     Dealt {
         tallies,

@@ -52,12 +52,11 @@ fn settle(
 {
     let mut shared = [0; ROWS];
     let side = other_side(e.side);
-    let size = e.size;
     let done = trade(
         allocation,
         side,
         bound,
-        size,
+        e.size,
         sides,
         prices,
         sizes,

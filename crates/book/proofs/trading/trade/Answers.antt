@@ -10,10 +10,10 @@ returns-then-all-eq0 c =
     let n = sym c.resting_within-all.ensures ∙ c.if-all-eq0.true in
     record { numbers_value = nothing_left a.sides.now a.prices.now a.sizes.now a.owners.now a.numbers.now c.requires.fit a.side a.bound.0 a.q.0 a.allocation n; lent_after = nothing_written a.sides.now a.prices.now a.sizes.now a.owners.now a.numbers.now c.requires.fit a.side a.bound.0 a.q.0 a.allocation n _ c.requires.lent_len; shared_after = nothing_shared a.sides.now a.prices.now a.sizes.now a.owners.now a.numbers.now c.requires.fit a.side a.bound.0 a.q.0 a.allocation n; value = trade_answers a.sides.now a.prices.now a.sizes.now a.owners.now a.numbers.now c.requires.fit a.side a.bound.0 a.q.0 a.allocation _ _ (nothing_filled a.sides.now a.prices.now a.sizes.now a.owners.now a.numbers.now c.requires.fit a.side a.bound.0 a.q.0 a.allocation n) (nothing_counted a.sides.now a.prices.now a.sizes.now a.owners.now a.numbers.now c.requires.fit a.side a.bound.0 a.q.0 a.allocation n) }
 
-pub record-fills-requires : goal.record-fills-requires
-record-fills-requires c =
+pub record-fills-requires-clause-distinct : goal.record-fills-requires-clause-distinct
+record-fills-requires-clause-distinct c =
     let a = c.args in
-    record { distinct = took_apart a.sides.now a.prices.now a.sizes.now a.owners.now a.numbers.now c.requires.fit a.side a.bound.0 a.q.0 a.allocation _ c.shares-quantities.ensures; lent_len = c.requires.lent_len }
+    took_apart a.sides.now a.prices.now a.sizes.now a.owners.now a.numbers.now c.requires.fit a.side a.bound.0 a.q.0 a.allocation _ c.shares-quantities.ensures
 
 pub returns : goal.returns
 returns c =

@@ -2,7 +2,6 @@
 use mathlib.Core.Path.{◌≡◌, ◌∙◌, ap}
 use native.Mathlib.Omega.{arith}
 use Rattle.std.specs.Prelude.{Result, Ok}
-use Rattle.book.specs.SoundLaws.{sound_whole}
 use Rattle.entry.specs.declared.refusal.TurnDown.{TurnDown}
 use Rattle.judge.specs.declared.Judged.{Judged}
 use Rattle.judge.specs.declared.Judged.TheVariants as passed
@@ -32,9 +31,6 @@ pub overflow_cast-number-in-Ok-Trades : goal.overflow_cast-number-in-Ok-Trades
 overflow_cast-number-in-Ok-Trades c =
     let trades = passes _ _ (passed.Trades c.in-Ok-Trades.o c.in-Ok-Trades.bound) c.in-Ok-Trades.is c.in-Ok-Trades.field-0-is in
     omega (arith, ((told (goal.at.overflow_cast-number-in-Ok-Trades c).After-judge).ready _ _ trades).numbered)
-
-pub rest_order-requires : goal.rest_order-requires
-rest_order-requires c = record { t_lt_tenants = c.requires.tenant; whole = sound_whole c.requires.ready.book }
 
 pub trade_order-requires : goal.trade_order-requires
 trade_order-requires c =
