@@ -9,7 +9,7 @@ use Rattle.writer.specs.Tapes.{tape_of}
 use Rattle.window.specs.declared.Filled.{Filled}
 use Rattle.window.specs.Window.{window_long, Refilled}
 use Rattle.window.specs.WindowLaws.{read_behind}
-use Rattle.window.specs.Program.{going, refused, failed, Stopped, status_of, stops_status}
+use Rattle.window.specs.Program.{going, refused, Stopped, status_of, stops_status}
 use Rattle.sheet.specs.declared.Order.{Order}
 use Rattle.sheet.specs.declared.Place.{Place}
 use Rattle.sheet.specs.declared.Refused.{Refused}
@@ -160,12 +160,6 @@ module _ {p : Place} {held window out : List ℕ} {at from to : ℕ} {more : Boo
                 (sym (append_assoc (drop d.from (take to window)) part rest) ∙ ap (λ (l : List ℕ). l ++ rest) (sym hand)));
           })
           (λ stop. absurd (omega arith))
-
-      -- or cannot be read
-      pub turn_fails : {next : List ℕ} {f : Filled} → Refilled window d.from to 0 next f →
-          Submitting d.place kept next lent d.at d.from to more d.told failed (turns - 1)
-      turn_fails g =
-          stands h (g.long ∙ w.window_long_lem) (omega (arith, fits_output, lent_long)) on_hand w.within (λ on. absurd (omega arith)) (λ stop. absurd (omega arith))
 
       -- the sheet has come to its end
       pub turn_ends :
