@@ -7,8 +7,8 @@ use Rattle.judge.specs.Dispositions.{disposition_number, disposition_one}
 use Rattle.dealing.specs.declared.Came.{Came as Told}
 use Rattle.dealing.specs.declared.Came.TheVariants as told
 
--- it is turned down by a number; or cancels the order of that number; or is accepted as an order of that number, with the
--- contracts filled, its disposition, and how many fill records it wrote
+-- it is turned down by a number; or cancels the order of that number; or is accepted as an order of that number, with
+-- the contracts filled, its disposition, and how many fill records it wrote
 pub data Came : Type 0 where
   TurnedDown : (code : ℕ) → Came
   Cancelled : (number : ℕ) → Came

@@ -22,8 +22,8 @@ pub struct Series {
     pub opened: bool,
 }
 
-// What came of an entry: it is turned down for a reason; or cancels the order of that number; or is accepted as an order
-// of that number, with the contracts filled, its disposition, and how many fill records it wrote.
+// What came of an entry: it is turned down for a reason; or cancels the order of that number; or is accepted as an
+// order of that number, with the contracts filled, its disposition, and how many fill records it wrote.
 #[derive(Clone, Copy)]
 pub enum Came {
     TurnedDown(TurnDown),

@@ -47,8 +47,7 @@ fn settle(
 {
     let mut shared = [0; ROWS];
     let side = other_side(e.side);
-    let size = e.size;
-    let done = book.trade(allocation, side, bound, size, &mut shared, records);
+    let done = book.trade(allocation, side, bound, e.size, &mut shared, records);
     let filled = done.filled;
     if filled.0 == 0 {
         return Settled {

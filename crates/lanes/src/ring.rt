@@ -51,7 +51,7 @@ fn slot(l: Lanes, t: usize, i: usize) -> usize
     requires { t < tenants }
     ensures { result ≡ slot t (head_of l t) i }
 {
-    t * DEPTH + (l.heads[t] as usize % DEPTH + i % DEPTH) % DEPTH
+    t * DEPTH + (l.lanes[t].head as usize % DEPTH + i % DEPTH) % DEPTH
 }
 
 // The oldest entry waiting in a lane.
@@ -77,7 +77,7 @@ pub fn put_all(l: Lanes, entries: &mut Entries, t: usize, ns: &[u32], count: usi
     requires { CanPut l entries.old t ns.now count }
     ensures { entries.new ≡ put_all l entries.old t ns.now count }
 {
-    let len = l.lens[t] as usize;
+    let len = l.lanes[t].len as usize;
     for j in 0..count {
         put(entries, slot(l, t, len + j), ns, j);
     }
@@ -88,7 +88,7 @@ pub fn joined(mut l: Lanes, t: usize, n: u32) -> Lanes
     requires { CanJoin l t n }
     ensures { result ≡ joined l t n }
 {
-    l.lens[t] += n;
+    l.lanes[t].len += n;
     l
 }
 
@@ -97,8 +97,9 @@ pub fn taken(mut l: Lanes, t: usize) -> Lanes
     requires { CanTake l t }
     ensures { result ≡ taken l t }
 {
-    l.heads[t] = ((l.heads[t] as usize + 1) % DEPTH) as u32;
-    l.lens[t] -= 1;
+    let lane = &mut l.lanes[t];
+    lane.head = ((lane.head as usize + 1) % DEPTH) as u32;
+    lane.len -= 1;
     l.place = (t + 1) % TENANTS;
     l
 }

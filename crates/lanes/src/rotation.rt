@@ -12,7 +12,7 @@ pub fn served(l: Lanes) -> Option<usize>
     let place = l.place % TENANTS;
     for d in 0..TENANTS {
         let t = (place + d) % TENANTS;
-        if 0 < l.lens[t] {
+        if 0 < l.lanes[t].len {
             return Some(t);
         }
     }

@@ -80,10 +80,10 @@ struct Shown {
 impl Write for Shown {
     fn write(&mut self, buf: &[u8]) -> std::io::Result<usize> {
         let got = self.output.write(buf);
-        if let Err(error) = &got {
-            if error.kind() == ErrorKind::BrokenPipe {
-                self.left = true;
-            }
+        if let Err(error) = &got
+            && error.kind() == ErrorKind::BrokenPipe
+        {
+            self.left = true;
         }
         got
     }
@@ -128,16 +128,14 @@ pub fn status_of(well: bool) -> Status
     if well { Status::Ended } else { Status::Refused }
 }
 
-// Tells the refused line, where there is one, on standard error: a word with the space behind it comes first.
+// Tells a refused line on standard error: a word with the space behind it comes first.
 pub fn tell_line(rt: &HostRuntime, what: &[u8], code: u32, line: u64)
     requires { length what.now ≤ word_most }
 {
-    if code > 0 {
-        let mut told = [0u8; WORD_MOST + LONGEST_BEHIND];
-        let end = refusal_line(what, code, line, &mut told);
-        let mut errors = rt.stderr();
-        write_out(&mut errors, &told[..end]);
-    }
+    let mut told = [0u8; WORD_MOST + LONGEST_BEHIND];
+    let end = refusal_line(what, code, line, &mut told);
+    let mut errors = rt.stderr();
+    write_out(&mut errors, &told[..end]);
 }
 
 // Writes out the first bytes of the output, up to a place, on standard output.

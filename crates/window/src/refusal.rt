@@ -3,11 +3,11 @@ ghost use Rattle.std.specs.Prelude.{[], ◌∷◌, ◌+◌, ◌≤◌, ◌<◌, 
 ghost use Rattle.units.specs.Decimal.{decimal};
 ghost use Rattle.window.specs.Refusal.{Lays, refusal_line, longest_behind};
 
-const ZERO: u8 = 48;
+const ZERO: u8 = b'0';
 
-const SPACE: u8 = 32;
+const SPACE: u8 = b' ';
 
-const NEWLINE: u8 = 10;
+const NEWLINE: u8 = b'\n';
 
 // The bytes behind its word and the space: ten digits, a space, twenty digits and the newline.
 pub(crate) const LONGEST_BEHIND: usize = 32;

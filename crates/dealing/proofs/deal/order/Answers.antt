@@ -32,9 +32,6 @@ overflow_cast-number-in-Ok-Trades c =
     let trades = passes _ _ (passed.Trades c.in-Ok-Trades.o c.in-Ok-Trades.bound) c.in-Ok-Trades.is c.in-Ok-Trades.field-0-is in
     omega (arith, ((told (goal.at.overflow_cast-number-in-Ok-Trades c).After-judge).ready _ _ trades).numbered)
 
-pub rest_order-requires : goal.rest_order-requires
-rest_order-requires c = record { t_lt_tenants = c.requires.tenant }
-
 pub trade_order-requires : goal.trade_order-requires
 trade_order-requires c =
     (told (goal.at.trade_order-requires c).After-judge).ready _ _

@@ -5,10 +5,8 @@ use Rattle.dealing.specs.ReachLaws.{floor_quoted}
 use Rattle.dealing.specs.TradeLaws.{settled_most, traded_is}
 use Rattle.dealing.proofs.deal.trade_order.Goals as goal
 
-pub settle_in_reach-done-requires : goal.settle_in_reach-done-requires
-settle_in_reach-done-requires c =
-    let can = c.requires in
-    record { settles = can.settles; quoted = floor_quoted _ _ can.quoted }
+pub settle_in_reach-done-requires-clause-quoted : goal.settle_in_reach-done-requires-clause-quoted
+settle_in_reach-done-requires-clause-quoted c = floor_quoted _ _ c.requires.quoted
 
 pub overflow_sub-left : goal.overflow_sub-left
 overflow_sub-left c = settled_most _ _ _ _ _ _ _ c.settle_in_reach-done.ensures.value

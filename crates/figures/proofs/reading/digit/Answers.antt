@@ -7,7 +7,7 @@ use Rattle.figures.proofs.reading.digit.Goals as goal
 
 pub returns-then-misplaced : goal.returns-then-misplaced
 unfolding digit_of pick
-returns-then-misplaced c = rw (sym c.misplaced.ensures ∙ c.if-misplaced.true) c.refused.ensures
+returns-then-misplaced c = rw (sym c.misplaced.ensures ∙ c.if-misplaced.true)
 
 pub overflow_sub-value : goal.overflow_sub-value
 unfolding digit_of pick
@@ -15,7 +15,7 @@ overflow_sub-value c = (placed _ _ (sym c.misplaced.ensures ∙ c.if-misplaced.f
 
 pub returns-then-value : goal.returns-then-value
 unfolding digit_of pick
-returns-then-value c = rw (sym c.misplaced.ensures ∙ c.if-misplaced.false, lt-ltb _ _ c.if-value.true) c.refused-then-value.ensures
+returns-then-value c = rw (sym c.misplaced.ensures ∙ c.if-misplaced.false, lt-ltb _ _ c.if-value.true)
 
 pub returns : goal.returns
 unfolding digit_of pick

@@ -1,6 +1,5 @@
 -- `opening::matching::open_at` meets its contract: the fills, their records, what they leave, and what the cancels
 -- leave of that.
-use native.Mathlib.Omega.{arith}
 use Rattle.opening.specs.MatchingLaws.{volume_fits, opening_apart, opening_writes, opening_shares, opening_leaves, opening_answers}
 use Rattle.opening.proofs.matching.open_at.Goals as goal
 
