@@ -8,6 +8,8 @@ ghost use Rattle.rows.specs.Rows.{rows};
 ghost use Rattle.book.specs.Fills.{fill_at, stored, Fits};
 ghost use Rattle.book.specs.Lent.{book_in};
 ghost use Rattle.session.specs.Market.{market_in};
+ghost use Rattle.session.specs.TurnAnswer.{turn_answer_of};
+ghost use Rattle.session.specs.OpenAnswer.{open_answer_of};
 ghost use Rattle.session.specs.Sound.{Sound, BookSound};
 ghost use Rattle.session.specs.Turn.{printed, fills_in};
 ghost use Rattle.session.specs.Open.{printed as printed_open, fills_in as fills_opened};
@@ -18,7 +20,7 @@ use book::{Book, Fill, Records};
 use lanes::Entries;
 use session::open::open_core;
 use session::turn::turn_core;
-use session::{OpenAnswer, Opened, Session, TurnAnswer, Turned};
+use session::{Opened, Session, Taken, Turned};
 use units::{Cents, Contracts};
 
 // What the flat records begin with. Any number does, since only what is written is stored; with 0 the compiler would
@@ -41,25 +43,21 @@ fn record_at(records: &Records, i: usize) -> Fill
 
 // How many fills a turn wrote.
 pub fn turn_fills(t: Turned) -> usize
-    ensures { result ≡ fills_in t.answer }
+    ensures { result ≡ fills_in (turn_answer_of t.answer) }
 {
-    let answer = t.answer;
-    match answer {
-        TurnAnswer::Refused(_) => 0,
-        TurnAnswer::TurnedDown(_, _) => 0,
-        TurnAnswer::Cancelled(_, _) => 0,
-        TurnAnswer::Accepted(_, _, _, _, fills) => fills,
+    match t.answer {
+        Ok(Taken::Accepted(_, _, _, _, fills)) => fills,
+        _ => 0,
     }
 }
 
 // How many fills an opening wrote.
 fn open_fills(o: Opened) -> usize
-    ensures { result ≡ fills_opened o.answer }
+    ensures { result ≡ fills_opened (open_answer_of o.answer) }
 {
-    let answer = o.answer;
-    match answer {
-        OpenAnswer::Refused(_) => 0,
-        OpenAnswer::AtPrice(_, _, fills) => fills,
+    match o.answer {
+        Ok(opening) => opening.fills,
+        Err(_) => 0,
     }
 }
 
@@ -68,10 +66,8 @@ fn store_all(fills: &mut [Fill], records: &Records, count: usize)
     requires { Fits count fills.old }
     ensures { fills.new ≡ stored records.now count fills.old }
 {
-    let mut i = 0;
-    while i < count {
+    for i in 0..count {
         fills[i] = record_at(records, i);
-        i += 1;
     }
 }
 
@@ -81,7 +77,7 @@ pub fn turn(s: Session, book: &mut Book, entries: &Entries, fills: &mut [Fill]) 
     ensures exact { turn_stored result (book_in book.new) entries.now fills.new
         ≡ turn_with (market_in s book.old entries.now) fills.old }
     ensures sound { Sound (market_in result.session book.new entries.now) }
-    ensures values { printed result.answer
+    ensures values { printed (turn_answer_of result.answer)
         ≡ printed (turn_with (market_in s book.old entries.now) fills.old).answer }
 {
     let mut records = [UNWRITTEN; 864];
@@ -98,7 +94,7 @@ pub fn open(s: Session, book: &mut Book, fills: &mut [Fill]) -> Opened
         ≡ open_with (market_in s book.old entries) fills.old }
     ensures sound { (entries : List ℕ) → Sound (market_in s book.old entries)
         → Sound (market_in result.session book.new entries) }
-    ensures values { (entries : List ℕ) → printed_open result.answer
+    ensures values { (entries : List ℕ) → printed_open (open_answer_of result.answer)
         ≡ printed_open (open_with (market_in s book.old entries) fills.old).answer }
 {
     let mut records = [UNWRITTEN; 864];

@@ -2,25 +2,24 @@
 #![tactic(auto)]
 
 ghost use Rattle.std.specs.Prelude.{◌≡◌};
-ghost use Rattle.session.specs.Market.{market_in};
+ghost use Rattle.session.specs.Market.{market_lent, market_found, market_left};
 ghost use Rattle.playing.specs.Playing.{leaving, play_of, CanPlay, PlaysTo};
 
-use book::Book;
 use lanes::Entries;
 use lines::{OUTPUT, Output};
 use replay::LONGEST_EVENT;
-use replay::stepping::{GOING, step};
+use replay::stepping::{Ending, step};
+use rows::Column;
 use session::Session;
 use tape::MOST_BYTES;
 use window::is_short;
 
-// What comes next: more of the tape is read, what is printed is written out, or nothing, since the tape ended or was
-// refused, with the byte that tells which.
+// What comes next: more of the tape is read, what is printed is written out, or nothing, since the tape ended.
 #[derive(Clone, Copy)]
 pub enum Next {
     Read,
     Write,
-    Stop(u8),
+    Stop(Ending),
 }
 
 // What playing leaves: the session, the place after what was printed, the place of the next event, and what comes next.
@@ -53,16 +52,20 @@ pub fn play(
     base: u64,
     from: usize,
     given: &mut [u32],
-    book: &mut Book,
+    sides: &mut Column,
+    prices: &mut Column,
+    sizes: &mut Column,
+    owners: &mut Column,
+    numbers: &mut Column,
     entries: &mut Entries,
     out: &mut Output,
     at: usize,
 ) -> Played
-    requires { CanPlay (market_in s book.old entries.old) bytes.now base from out.old at }
+    requires { CanPlay (market_lent s sides prices sizes owners numbers entries) bytes.now base from out.old at }
     ensures { PlaysTo
-        (play_of bytes.now more base (market_in s book.old entries.old) given.old from at)
+        (play_of bytes.now more base (market_found s sides prices sizes owners numbers entries) given.old from at)
         bytes.now out.old at result
-        (market_in result.session book.new entries.new) given.new out.new }
+        (market_left result.session sides prices sizes owners numbers entries) given.new out.new }
 {
     let mut s = s;
     let mut from = from;
@@ -74,12 +77,14 @@ pub fn play(
         if OUTPUT - at < LONGEST_EVENT {
             return leave(s, at, from, Next::Write);
         }
-        let done = step(s, bytes, from, base, given, book, entries, out, at);
+        let done = step(
+            s, bytes, from, base, given, sides, prices, sizes, owners, numbers, entries, out, at,
+        );
         s = done.session;
         from = done.from;
         at = done.at;
-        if done.status != GOING {
-            return leave(s, at, from, Next::Stop(done.status));
+        if let Some(how) = done.ending {
+            return leave(s, at, from, Next::Stop(how));
         }
     }
 }

@@ -4,6 +4,7 @@ ghost use Rattle.book.specs.Book.{Book as Book·given};
 ghost use Rattle.book.specs.Lent.{book_in};
 ghost use Rattle.lines.specs.Laying.{Room};
 ghost use Rattle.entry.specs.Numbers.{entry_numbers};
+ghost use Rattle.entry.specs.Refusals.{code_of};
 ghost use Rattle.session.specs.Market.{market_of, market_in};
 ghost use Rattle.session.specs.Sound.{LanesSound, BookSound};
 ghost use Rattle.replay.specs.Listing.{longest_event};
@@ -12,6 +13,7 @@ ghost use Rattle.replay.specs.Replay.{settings_printed, away_printed, submit_pri
 use crate::Stepped;
 use crate::listing::{open_lines, turn_lines};
 use book::Book;
+use entry::refusal::Refusal;
 use entry::{Away, ENTRY_NUMBERS, Settings};
 use fills::on_row::{open_on_row, turn_on_row};
 use lanes::Entries;
@@ -22,6 +24,16 @@ use session::away::away;
 use session::settings::settings;
 use session::submit::submit;
 use tape::Event;
+
+// The code of a call's answer: 0, or the number of its refusal.
+fn code(answer: Result<(), Refusal>) -> u32
+    ensures { result ≡ code_of answer }
+{
+    match answer {
+        Ok(()) => 0,
+        Err(why) => why.number(),
+    }
+}
 
 fn settings_event(
     s: Session,
@@ -36,10 +48,9 @@ fn settings_event(
         out.old at (market_in result.session book.new entries.new) out.new result.at }
 {
     let done = settings(s, given, book, entries);
-    let end = set_line(out, at, done.code);
-    let after = done.session;
+    let end = set_line(out, at, code(done.answer));
     Stepped {
-        session: after,
+        session: done.session,
         at: end,
     }
 }
@@ -49,13 +60,10 @@ fn away_event(s: Session, quote: Away, out: &mut Output, at: usize) -> Stepped
     ensures { (b : Book·given) (entries : List ℕ) → CanReplay (market_of s b entries) out.old at
         → Replayed (away_printed (market_of s b entries) quote) out.old at (market_of result.session b entries) out.new result.at }
 {
-    let bid = quote.bid;
-    let offer = quote.offer;
-    let done = away(s, bid, offer);
-    let end = away_line(out, at, done.code);
-    let after = done.session;
+    let done = away(s, quote.bid, quote.offer);
+    let end = away_line(out, at, code(done.answer));
     Stepped {
-        session: after,
+        session: done.session,
         at: end,
     }
 }
@@ -85,10 +93,9 @@ fn submit_event(
 {
     let n = numbers_of(count, given.len());
     let done = submit(s, tenant, count, &given[..n], entries);
-    let end = submit_line(out, at, done.code);
-    let after = done.session;
+    let end = submit_line(out, at, code(done.answer));
     Stepped {
-        session: after,
+        session: done.session,
         at: end,
     }
 }
@@ -105,13 +112,9 @@ fn turn_event(
         out.old at (market_in result.session book.new entries.now) out.new result.at }
 {
     let done = turn_on_row(s, book, entries);
-    let turned = done.turned;
-    let answer = turned.answer;
-    let row = done.row;
-    let end = turn_lines(answer, row, out, at);
-    let after = turned.session;
+    let end = turn_lines(done.returned.answer, done.row, out, at);
     Stepped {
-        session: after,
+        session: done.returned.session,
         at: end,
     }
 }
@@ -125,13 +128,17 @@ fn open_event(s: Session, book: &mut Book, out: &mut Output, at: usize) -> Stepp
 {
     let before = book.sizes;
     let done = open_on_row(s, book);
-    let opened = done.opened;
-    let answer = opened.answer;
-    let row = done.row;
-    let end = open_lines(answer, &before, &book.sizes, &book.numbers, row, out, at);
-    let after = opened.session;
+    let end = open_lines(
+        done.returned.answer,
+        &before,
+        &book.sizes,
+        &book.numbers,
+        done.row,
+        out,
+        at,
+    );
     Stepped {
-        session: after,
+        session: done.returned.session,
         at: end,
     }
 }

@@ -10,24 +10,22 @@ use lanes::Entries;
 use lines::Output;
 use lines::line::{end_line, tape_line};
 use session::Session;
-use tape::Reading;
 
-// The tape goes on.
-pub const GOING: u8 = 0;
+// How a tape ended: between two events, or refused.
+#[derive(Clone, Copy, PartialEq, Eq)]
+pub enum Ending {
+    Ended,
+    Refused,
+}
 
-// How a tape ended, as the program tells it: it ended between two events, or was refused.
-pub const ENDED: u8 = b'0';
-
-pub const REFUSED: u8 = b'1';
-
-// What a step leaves: the session, the place after what was printed, the place of the next event, and whether the tape
-// goes on.
+// What a step leaves: the session, the place after what was printed, the place of the next event, and how the tape
+// ended, or none where it goes on.
 #[derive(Clone, Copy)]
 pub struct Reached {
     pub session: Session,
     pub at: usize,
     pub from: usize,
-    pub status: u8,
+    pub ending: Option<Ending>,
 }
 
 // The event at the place `from` of the tape's bytes that are at hand, of which the first stands at the place `base` of
@@ -50,35 +48,27 @@ pub fn step(
         bytes.now from out.old at result
         (market_in result.session book.new entries.new) given.new out.new }
 {
-    let reading = tape::events::event(bytes, from, given);
-    match reading {
-        Reading::Read(e, end) => {
+    match tape::events::event(bytes, from, given) {
+        Ok(Some((e, end))) => {
             let done = event(s, e, given, book, entries, out, at);
-            let after = done.session;
             Reached {
-                session: after,
+                session: done.session,
                 at: done.at,
                 from: end,
-                status: GOING,
+                ending: None,
             }
         }
-        Reading::Refused(code, place) => {
-            let end = tape_line(out, at, code, base + place as u64);
-            Reached {
-                session: s,
-                at: end,
-                from: from,
-                status: REFUSED,
-            }
-        }
-        Reading::End => {
-            let end = end_line(out, at);
-            Reached {
-                session: s,
-                at: end,
-                from: from,
-                status: ENDED,
-            }
-        }
+        Ok(None) => Reached {
+            session: s,
+            at: end_line(out, at),
+            from,
+            ending: Some(Ending::Ended),
+        },
+        Err(r) => Reached {
+            session: s,
+            at: tape_line(out, at, r.why.number(), base + r.place as u64),
+            from,
+            ending: Some(Ending::Refused),
+        },
     }
 }

@@ -6,8 +6,8 @@ ghost use Rattle.replay.specs.Tallying.{longest_tallies, tally_line_of, reading_
 
 use lines::Output;
 use lines::line::tally_line;
+use session::Session;
 use session::reading::tally_of;
-use session::{Session, Tallied};
 use units::TENANTS;
 
 // The line of one tenant.
@@ -16,8 +16,7 @@ fn line_of(s: Session, tenant: u32, out: &mut Output, at: usize) -> usize
     requires room { Room out.old at longest_tally }
     ensures { Laid out.old at (tally_line_of tenant (reading_of s tenant)) longest_tally out.new result }
 {
-    let told = tally_of(s, tenant);
-    let Tallied::Of(t) = told else {
+    let Ok(t) = tally_of(s, tenant) else {
         return at;
     };
     tally_line(out, at, tenant, t.turns, t.bought, t.sold)
@@ -29,11 +28,8 @@ pub fn tally_lines(s: Session, out: &mut Output, at: usize) -> usize
     ensures { Laid out.old at (tally_lines s) longest_tallies out.new result }
 {
     let mut end = at;
-    let mut t: usize = 0;
-    while t < TENANTS {
-        let next = line_of(s, t as u32, out, end);
-        end = next;
-        t += 1;
+    for t in 0..TENANTS {
+        end = line_of(s, t as u32, out, end);
     }
     end
 }

@@ -6,6 +6,7 @@ use Rattle.book.specs.Book.{Book}
 use Rattle.book.specs.Lent.{book_in}
 use Rattle.book.specs.declared.Book.{Book as Columns}
 use Rattle.entry.specs.declared.Away.{Away}
+use Rattle.entry.specs.Refusals.{code_of}
 use Rattle.lanes.specs.declared.Lanes.{Lanes}
 use Rattle.tally.specs.declared.Tally.{Tally}
 use Rattle.dealing.specs.declared.Series.{Series}
@@ -75,4 +76,4 @@ floor_on s b = floor_of (series_of s) s.tallies s.next b
 
 -- what a call answered, beside the book and the entries that it left
 abbrev pub answered_of : Answered → Book → List ℕ → Called
-answered_of r book entries = record { market = market_of r.session book entries; code = r.code }
+answered_of r book entries = record { market = market_of r.session book entries; code = code_of r.answer }

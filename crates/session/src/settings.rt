@@ -8,29 +8,27 @@ ghost use Rattle.session.specs.Sound.{Sound};
 use crate::{Answered, Session};
 use book::Book;
 use entry::ranges::{in_range, terms_of};
+use entry::refusal::Refusal;
 use entry::{Away, Settings, Terms};
 use lanes::{ALL_ENTRIES, Entries, Lanes};
 use units::Cents;
-use units::grid::{Chosen, Grid};
+use units::grid::Grid;
 
 // A session on new terms: nothing rests, waits or is counted, the rotation is at tenant 0 and the series unopened.
 pub(crate) fn started(accepted: bool, terms: Terms) -> Session
     ensures { result ≡ started_on accepted terms }
 {
-    let away = Away {
-        bid: Cents(0),
-        offer: Cents(0),
-    };
-    let lanes = Lanes::new();
-    let tallies = tally::none();
     Session {
-        accepted: accepted,
-        terms: terms,
-        away: away,
+        accepted,
+        terms,
+        away: Away {
+            bid: Cents(0),
+            offer: Cents(0),
+        },
         opened: false,
-        lanes: lanes,
+        lanes: Lanes::new(),
         next: 1,
-        tallies: tallies,
+        tallies: tally::none(),
     }
 }
 
@@ -41,26 +39,23 @@ pub fn settings(s: Session, given: Settings, book: &mut Book, entries: &mut Entr
     ensures sound { Sound (market_in s book.old entries.old)
         → Sound (market_in result.session book.new entries.new) }
 {
-    let chosen = Grid::of(given.grid);
-    let Chosen::One(grid) = chosen else {
+    let Some(grid) = Grid::of(given.grid) else {
         return Answered {
             session: s,
-            code: 7,
+            answer: Err(Refusal::OutOfRange),
         };
     };
-    if in_range(given) {
-        *book = Book::new();
-        *entries = [0u32; ALL_ENTRIES];
-        let terms = terms_of(given, grid);
-        let after = started(true, terms);
-        Answered {
-            session: after,
-            code: 0,
-        }
-    } else {
-        Answered {
+    if !in_range(given) {
+        return Answered {
             session: s,
-            code: 7,
-        }
+            answer: Err(Refusal::OutOfRange),
+        };
+    }
+    *book = Book::new();
+    *entries = [0; ALL_ENTRIES];
+    let terms = terms_of(given, grid);
+    Answered {
+        session: started(true, terms),
+        answer: Ok(()),
     }
 }

@@ -15,18 +15,18 @@ returns-then-at-lt-LONGEST_EVENT c =
     rw c.leave-then-at-lt-LONGEST_EVENT.ensures
     (playing_writes _ _ _ c.loop-s.invariant c.is_short.ensures c.if-is_short.false _ c.if-at-lt-LONGEST_EVENT.true)
 
-pub returns-then-done-ne-GOING : goal.returns-then-done-ne-GOING
-returns-then-done-ne-GOING c =
-    rw c.leave-then-done-ne-GOING.ensures
+pub returns-in-Some : goal.returns-in-Some
+returns-in-Some c =
+    rw c.leave-in-Some.ensures
     (playing_stops _ _ _ c.loop-s.invariant c.is_short.ensures c.if-is_short.false c.if-at-lt-LONGEST_EVENT.false _ _ _ _
-    c.step-done.ensures c.if-done-ne-GOING.true)
+    c.step-done.ensures _ c.in-Some.is)
 
 pub loop-s-smaller : goal.loop-s-smaller
 loop-s-smaller c =
     playing_less _ _ _ c.loop-s.invariant c.is_short.ensures c.if-is_short.false c.if-at-lt-LONGEST_EVENT.false _ _ _ _
-    c.step-done.ensures c.if-done-ne-GOING.false
+    c.step-done.ensures c.in_default.is
 
 pub loop-s-preserved : goal.loop-s-preserved
 loop-s-preserved c =
     playing_goes_on _ _ _ c.loop-s.invariant c.is_short.ensures c.if-is_short.false c.if-at-lt-LONGEST_EVENT.false _ _ _ _
-    c.step-done.ensures c.if-done-ne-GOING.false (omega arith)
+    c.step-done.ensures c.in_default.is (omega arith)

@@ -5,12 +5,11 @@ use mathlib.Core.List.{[]}
 use native.Mathlib.Omega.{arith}
 use lib.ListN.{length}
 use Rattle.book.specs.Lent.{book_in}
-use Rattle.session.specs.declared.OpenAnswer.{OpenAnswer}
+use Rattle.session.specs.OpenAnswer.{OpenAnswer}
 use Rattle.session.specs.Market.{market_of}
 use Rattle.session.specs.Open.{fills_in}
 use Rattle.session.specs.OpenLaws.{numbers_stand}
 use Rattle.fills.specs.Calls.{Stored, blank, empty_row}
-use Rattle.session.specs.OpenLaws.{numbers_stand}
 use Rattle.fills.specs.CallsLaws.{open_few}
 use Rattle.replay.specs.ReplayLaws.{open_replayed}
 use Rattle.replay.proofs.events.open_event.Goals as goal
@@ -33,5 +32,5 @@ returns c =
     let a = c.args in
     let exact = c.open_on_row-done.ensures.exact entries in
     let kept : c.open_on_row-done.new.book.numbers ≡ a.book.now.numbers =
-        ap (λ (d : Stored OpenAnswer). d.market.book.numbers) exact ∙ numbers_stand (market_of a.s (book_in a.book.now) entries) _ _ in
+    ap (λ (d : Stored OpenAnswer). d.market.book.numbers) exact ∙ numbers_stand (market_of a.s (book_in a.book.now) entries) _ _ in
     open_replayed _ _ _ _ _ _ exact (c.open_on_row-done.ensures.sound entries can.sound) (rw kept at c.open_lines-end.ensures)

@@ -2,7 +2,7 @@
 use mathlib.Core.Path.{◌≡◌, ap}
 use native.Mathlib.Omega.{arith}
 use lib.ListN.{length}
-use Rattle.session.specs.declared.TurnAnswer.{TurnAnswer}
+use Rattle.session.specs.TurnAnswer.{TurnAnswer}
 use Rattle.session.specs.Market.{market_in}
 use Rattle.session.specs.Turn.{fills_in}
 use Rattle.fills.specs.Calls.{Stored, blank, empty_row}
