@@ -2,14 +2,14 @@
 #![tactic(auto)]
 
 ghost use Rattle.std.specs.Prelude.{◌≡◌};
-ghost use Rattle.session.specs.Market.{market_lent, market_found, market_left};
+ghost use Rattle.session.specs.Market.{market_in};
 ghost use Rattle.playing.specs.Playing.{leaving, play_of, CanPlay, PlaysTo};
 
+use book::Book;
 use lanes::Entries;
 use lines::{OUTPUT, Output};
 use replay::LONGEST_EVENT;
 use replay::stepping::{Ending, step};
-use rows::Column;
 use session::Session;
 use tape::MOST_BYTES;
 use window::is_short;
@@ -52,20 +52,16 @@ pub fn play(
     base: u64,
     from: usize,
     given: &mut [u32],
-    sides: &mut Column,
-    prices: &mut Column,
-    sizes: &mut Column,
-    owners: &mut Column,
-    numbers: &mut Column,
+    book: &mut Book,
     entries: &mut Entries,
     out: &mut Output,
     at: usize,
 ) -> Played
-    requires { CanPlay (market_lent s sides prices sizes owners numbers entries) bytes.now base from out.old at }
+    requires { CanPlay (market_in s book.old entries.old) bytes.now base from out.old at }
     ensures { PlaysTo
-        (play_of bytes.now more base (market_found s sides prices sizes owners numbers entries) given.old from at)
+        (play_of bytes.now more base (market_in s book.old entries.old) given.old from at)
         bytes.now out.old at result
-        (market_left result.session sides prices sizes owners numbers entries) given.new out.new }
+        (market_in result.session book.new entries.new) given.new out.new }
 {
     let mut s = s;
     let mut from = from;
@@ -77,9 +73,7 @@ pub fn play(
         if OUTPUT - at < LONGEST_EVENT {
             return leave(s, at, from, Next::Write);
         }
-        let done = step(
-            s, bytes, from, base, given, sides, prices, sizes, owners, numbers, entries, out, at,
-        );
+        let done = step(s, bytes, from, base, given, book, entries, out, at);
         s = done.session;
         from = done.from;
         at = done.at;

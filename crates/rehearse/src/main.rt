@@ -11,6 +11,7 @@ ghost use Rattle.lines.specs.Laying.{output};
 ghost use Rattle.replay.specs.Stepping.{status_of};
 ghost use Rattle.window.specs.Program.{status_byte};
 
+use book::Book;
 use entry::BULK_NUMBERS;
 use lanes::ALL_ENTRIES;
 use lines::Output;
@@ -65,11 +66,7 @@ fn main(rt: HostRuntime) {
         return;
     };
     let mut s = Session::new();
-    let mut sides = [0; 216];
-    let mut prices = [0; 216];
-    let mut sizes = [0; 216];
-    let mut owners = [0; 216];
-    let mut numbers = [0; 216];
+    let mut book = Book::new();
     let mut entries = [0; ALL_ENTRIES];
     let mut given = [0; BULK_NUMBERS];
     let mut window = [0; WINDOW];
@@ -90,11 +87,7 @@ fn main(rt: HostRuntime) {
             base,
             from,
             &mut given,
-            &mut sides,
-            &mut prices,
-            &mut sizes,
-            &mut owners,
-            &mut numbers,
+            &mut book,
             &mut entries,
             &mut out,
             at,

@@ -2,7 +2,7 @@
 // both turns are printed.
 #![tactic(auto)]
 
-use book::Fill;
+use book::{Book, Fill};
 use entry::Settings;
 use fills::on_row::{OnRow, open_on_row, turn_on_row};
 use fills::turn_fills;
@@ -53,44 +53,28 @@ fn show(rt: &HostRuntime, done: &OnRow<Turned>) -> io::Result<()> {
 }
 
 fn main(rt: HostRuntime) -> io::Result<()> {
-    let mut sides = [0u32; 216];
-    let mut prices = [0u32; 216];
-    let mut sizes = [0u32; 216];
-    let mut owners = [0u32; 216];
-    let mut numbers = [0u32; 216];
+    let mut book = Book::new();
     let mut entries = [0u32; ALL_ENTRIES];
     let buy = [1u32, 1, 1, 100, 5, 0];
     let sell = [1u32, 2, 2, 100, 3, 0];
     let set = settings(
         Session::new(),
         worked(),
-        &mut sides,
-        &mut prices,
-        &mut sizes,
-        &mut owners,
-        &mut numbers,
+        &mut book,
         &mut entries,
     );
-    let quiet = open_on_row(set.session, &sides, &prices, &mut sizes, &owners, &numbers);
+    let quiet = open_on_row(set.session, &mut book);
     let buys = submit(quiet.returned.session, 2, 1, &buy, &mut entries);
     let sells = submit(buys.session, 7, 1, &sell, &mut entries);
     let first = turn_on_row(
         sells.session,
-        &mut sides,
-        &mut prices,
-        &mut sizes,
-        &mut owners,
-        &mut numbers,
+        &mut book,
         &entries,
     );
     show(&rt, &first)?;
     let second = turn_on_row(
         first.returned.session,
-        &mut sides,
-        &mut prices,
-        &mut sizes,
-        &mut owners,
-        &mut numbers,
+        &mut book,
         &entries,
     );
     show(&rt, &second)

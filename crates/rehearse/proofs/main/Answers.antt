@@ -10,7 +10,8 @@ use Rattle.rehearse.proofs.main.Goals as goal
 
 pub loop-turns-init : goal.loop-turns-init
 loop-turns-init c =
-    rehearsal_starts c.new-s.ensures.exact (c.new-s.ensures.sound _ _) (length-replicate {A = ℕ} window_long 0) (length-replicate {A = ℕ} window_long 0) (omega arith)
+    rw c.new-book.ensures
+    (rehearsal_starts c.new-s.ensures.exact (c.new-s.ensures.sound _ _) (length-replicate {A = ℕ} window_long 0) (length-replicate {A = ℕ} window_long 0) (omega arith))
 
 pub refill-requires-clause-from_le_to : goal.refill-requires-clause-from_le_to
 refill-requires-clause-from_le_to c = (fits_window c.loop-turns.invariant c.play-done.ensures (search rules)).0
