@@ -6,6 +6,7 @@ use Rattle.units.specs.Lent.{Column, ColumnMut, Lent, LentMut}
 use Rattle.book.specs.Book.{Book}
 use Rattle.book.specs.Lent.{given, before, after}
 use Rattle.entry.specs.declared.Away.{Away}
+use Rattle.entry.specs.Refusals.{code_of}
 use Rattle.lanes.specs.declared.Lanes.{Lanes}
 use Rattle.tally.specs.declared.Tally.{Tally}
 use Rattle.dealing.specs.declared.Series.{Series}
@@ -91,4 +92,4 @@ floor_on s b = floor_of (series_of s) s.tallies s.next b
 
 -- what a call answered, beside the book and the entries that it left
 abbrev pub answered_of : Answered → Book → List ℕ → Called
-answered_of r book entries = record { market = market_of r.session book entries; code = r.code }
+answered_of r book entries = record { market = market_of r.session book entries; code = code_of r.answer }

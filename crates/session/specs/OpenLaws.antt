@@ -14,10 +14,10 @@ use Rattle.dealing.specs.declared.open.Counted.{Counted}
 use Rattle.dealing.specs.Open.{counted_of, CanOpen, way_of}
 use Rattle.dealing.specs.Sound.{Ready}
 use Rattle.price.specs.Price.{chosen}
-use Rattle.session.specs.declared.OpenAnswer.TheVariants as answer
+use Rattle.session.specs.OpenAnswer as answer
 use Rattle.session.specs.declared.Session.{Session}
-use Rattle.dealing.specs.declared.open.Way.{Way}
-use Rattle.dealing.specs.declared.open.Way.TheVariants.{Refused, Quiet, At}
+use Rattle.dealing.specs.Way.{Way}
+use Rattle.dealing.specs.Way.{Refused, Quiet, At}
 use Rattle.session.specs.Market.{Market, market_of, series_of, floor_on}
 use Rattle.session.specs.Open.{open_refusal, choice_of, open_on, open_quiet, open_at, open_of, by_way}
 

@@ -17,9 +17,11 @@ ghost use Rattle.session.specs.Sound.{Sound};
 
 use crate::settings::started;
 use dealing::Series;
+use entry::refusal::{Refusal, TurnDown};
 use entry::{Away, Terms};
+use judge::outcome::Disposition;
 use lanes::Lanes;
-use tally::{Tallies, Tally};
+use tally::Tallies;
 use units::grid::Grid;
 use units::{Cents, Contracts};
 
@@ -40,13 +42,12 @@ pub struct Session {
 fn no_terms() -> Terms
     ensures { result ≡ no_terms }
 {
-    let grid = Grid {
-        low: Cents(0),
-        high: Cents(0),
-    };
     Terms {
         allocation: 0,
-        grid: grid,
+        grid: Grid {
+            low: Cents(0),
+            high: Cents(0),
+        },
         put: false,
         strike: Cents(0),
         drill: Cents(0),
@@ -63,11 +64,9 @@ fn no_terms() -> Terms
 fn series_of(s: Session) -> Series
     ensures { result ≡ series_of s }
 {
-    let terms = s.terms;
-    let away = s.away;
     Series {
-        terms: terms,
-        away: away,
+        terms: s.terms,
+        away: s.away,
         opened: s.opened,
     }
 }
@@ -82,47 +81,41 @@ impl Session {
     }
 }
 
-// What settings, away and submit answer: 0, or the number of the refusal.
+// What settings, away and submit answer: nothing, or why they are refused.
 #[derive(Clone, Copy)]
 pub struct Answered {
     pub session: Session,
-    pub code: u32,
+    pub answer: Result<(), Refusal>,
 }
 
-// What a turn answers: refused by a number; or a taken turn of a tenant, whose entry is turned down by a number, or
-// cancels an order, or is accepted as an order, with the contracts filled, its disposition, and how many fill records
-// it wrote.
+// What a taken turn of a tenant comes to: its entry is turned down; or cancels the order of a number; or is accepted as
+// the order of a number, with the contracts filled, its disposition, and how many fill records it wrote.
 #[derive(Clone, Copy)]
-pub enum TurnAnswer {
-    Refused(u32),
-    TurnedDown(usize, u32),
+pub enum Taken {
+    TurnedDown(usize, TurnDown),
     Cancelled(usize, u32),
-    Accepted(usize, u32, Contracts, u32, usize),
+    Accepted(usize, u32, Contracts, Disposition, usize),
 }
 
+// What a turn answers: what it came to, or why it is refused.
 #[derive(Clone, Copy)]
 pub struct Turned {
     pub session: Session,
-    pub answer: TurnAnswer,
+    pub answer: Result<Taken, Refusal>,
 }
 
-// What an opening answers: refused by a number; or the price and the volume, both 0 where no resting buy was at or
-// above a resting sell, and how many fill records it wrote.
+// What an opening comes to: the price and the volume, both 0 where no resting buy was at or above a resting sell, and
+// how many fill records it wrote.
 #[derive(Clone, Copy)]
-pub enum OpenAnswer {
-    Refused(u32),
-    AtPrice(Cents, Contracts, usize),
+pub struct Opening {
+    pub price: Cents,
+    pub volume: Contracts,
+    pub fills: usize,
 }
 
+// What an open answers: what it came to, or why it is refused.
 #[derive(Clone, Copy)]
 pub struct Opened {
     pub session: Session,
-    pub answer: OpenAnswer,
-}
-
-// What the reading of a tally answers: refused by a number; or the tally of the tenant.
-#[derive(Clone, Copy)]
-pub enum Tallied {
-    Refused(u32),
-    Of(Tally),
+    pub answer: Result<Opening, Refusal>,
 }

@@ -4,12 +4,13 @@ ghost use Rattle.rows.specs.Rows.{rows};
 ghost use Rattle.book.specs.Records.{fields};
 ghost use Rattle.book.specs.Lent.{given_sizing, before_sizing, after_sizing};
 ghost use Rattle.session.specs.Market.{market_of};
+ghost use Rattle.session.specs.OpenAnswer.{open_answer_of};
 ghost use Rattle.session.specs.Sound.{BookSound, Sound};
 ghost use Rattle.session.specs.Open.{open_done, printed, open_on, open_of};
 
-use crate::{OpenAnswer, Opened, Session, series_of};
+use crate::{Opened, Opening, Session, series_of};
 use book::Records;
-use dealing::open::{Way, open_book, which_way};
+use dealing::open::{open_book, which_way};
 use rows::Column;
 use tally::Tallies;
 use units::{Cents, Contracts};
@@ -18,10 +19,11 @@ use units::{Cents, Contracts};
 fn open_on(s: Session, tallies: Tallies) -> Session
     ensures { result ≡ open_on s tallies }
 {
-    let mut after = s;
-    after.opened = true;
-    after.tallies = tallies;
-    after
+    Session {
+        opened: true,
+        tallies,
+        ..s
+    }
 }
 
 // Opens the series, or refuses.
@@ -41,34 +43,33 @@ pub fn open_core(
         ≡ open_of (market_of s (before_sizing sides prices sizes owners numbers) entries) lent records.old }
     ensures sound { (entries : List ℕ) → Sound (market_of s (before_sizing sides prices sizes owners numbers) entries)
         → Sound (market_of result.session (after_sizing sides prices sizes owners numbers) entries) }
-    ensures values { (entries : List ℕ) → printed result.answer
+    ensures values { (entries : List ℕ) → printed (open_answer_of result.answer)
         ≡ printed (open_of (market_of s (before_sizing sides prices sizes owners numbers) entries) lent records.old).answer }
 {
-    let accepted = s.accepted;
-    let series = series_of(s);
-    let way = which_way(accepted, series, lent, sides, prices, sizes);
-    match way {
-        Way::Refused(code) => Opened {
+    match which_way(s.accepted, series_of(s), lent, sides, prices, sizes) {
+        Err(why) => Opened {
             session: s,
-            answer: OpenAnswer::Refused(code),
+            answer: Err(why),
         },
-        Way::Quiet => {
-            let tallies = s.tallies;
-            Opened {
-                session: open_on(s, tallies),
-                answer: OpenAnswer::AtPrice(Cents(0), Contracts(0), 0),
-            }
-        }
-        Way::At(price) => {
-            let tallies = s.tallies;
+        Ok(None) => Opened {
+            session: open_on(s, s.tallies),
+            answer: Ok(Opening {
+                price: Cents(0),
+                volume: Contracts(0),
+                fills: 0,
+            }),
+        },
+        Ok(Some(price)) => {
             let done = open_book(
-                tallies, price, sides, prices, sizes, owners, numbers, records,
+                s.tallies, price, sides, prices, sizes, owners, numbers, records,
             );
-            let counted = done.tallies;
-            let volume = done.volume;
             Opened {
-                session: open_on(s, counted),
-                answer: OpenAnswer::AtPrice(price, volume, done.fills),
+                session: open_on(s, done.tallies),
+                answer: Ok(Opening {
+                    price,
+                    volume: done.volume,
+                    fills: done.fills,
+                }),
             }
         }
     }

@@ -7,30 +7,28 @@ ghost use Rattle.session.specs.Sound.{Sound};
 
 use crate::{Answered, Session};
 use entry::ranges::{in_range, terms_of};
+use entry::refusal::Refusal;
 use entry::{Away, Settings, Terms};
 use lanes::{ALL_ENTRIES, Entries, Lanes};
 use rows::Column;
 use units::Cents;
-use units::grid::{Chosen, Grid};
+use units::grid::Grid;
 
 // A session on new terms: nothing rests, waits or is counted, the rotation is at tenant 0 and the series unopened.
 pub(crate) fn started(accepted: bool, terms: Terms) -> Session
     ensures { result ≡ started_on accepted terms }
 {
-    let away = Away {
-        bid: Cents(0),
-        offer: Cents(0),
-    };
-    let lanes = Lanes::new();
-    let tallies = tally::none();
     Session {
-        accepted: accepted,
-        terms: terms,
-        away: away,
+        accepted,
+        terms,
+        away: Away {
+            bid: Cents(0),
+            offer: Cents(0),
+        },
         opened: false,
-        lanes: lanes,
+        lanes: Lanes::new(),
         next: 1,
-        tallies: tallies,
+        tallies: tally::none(),
     }
 }
 
@@ -50,30 +48,27 @@ pub fn settings(
     ensures sound { Sound (market_found s sides prices sizes owners numbers entries)
         → Sound (market_left result.session sides prices sizes owners numbers entries) }
 {
-    let chosen = Grid::of(given.grid);
-    let Chosen::One(grid) = chosen else {
+    let Some(grid) = Grid::of(given.grid) else {
         return Answered {
             session: s,
-            code: 7,
+            answer: Err(Refusal::OutOfRange),
         };
     };
-    if in_range(given) {
-        *sides = [0u32; 216];
-        *prices = [0u32; 216];
-        *sizes = [0u32; 216];
-        *owners = [0u32; 216];
-        *numbers = [0u32; 216];
-        *entries = [0u32; ALL_ENTRIES];
-        let terms = terms_of(given, grid);
-        let after = started(true, terms);
-        Answered {
-            session: after,
-            code: 0,
-        }
-    } else {
-        Answered {
+    if !in_range(given) {
+        return Answered {
             session: s,
-            code: 7,
-        }
+            answer: Err(Refusal::OutOfRange),
+        };
+    }
+    *sides = [0; 216];
+    *prices = [0; 216];
+    *sizes = [0; 216];
+    *owners = [0; 216];
+    *numbers = [0; 216];
+    *entries = [0; ALL_ENTRIES];
+    let terms = terms_of(given, grid);
+    Answered {
+        session: started(true, terms),
+        answer: Ok(()),
     }
 }

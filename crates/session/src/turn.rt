@@ -1,50 +1,50 @@
 // The call turn.
-ghost use Rattle.std.specs.Prelude.{◌≡◌, ◌*◌, ◌≤◌, length};
+ghost use Rattle.std.specs.Prelude.{◌≡◌, ◌*◌, ◌≤◌, length, Some, IfOk};
 ghost use Rattle.book.specs.Records.{fields};
 ghost use Rattle.rows.specs.Rows.{rows, no_number};
 ghost use Rattle.lanes.specs.Asked.{CanTake};
+ghost use Rattle.lanes.specs.Rotation.{served};
 ghost use Rattle.tally.specs.Tallies.{Countable};
+ghost use Rattle.dealing.specs.Came.{came_of};
 ghost use Rattle.dealing.specs.Floor.{next_after};
 ghost use Rattle.session.specs.Market.{market_lent_turning, market_found_turning, market_left_turning};
 ghost use Rattle.session.specs.Sound.{TurnsHeld, Sound};
-ghost use Rattle.session.specs.Turn.{printed, turn_refusal, after_taking, answer_of, turned_by, turn_left, turn_of};
+ghost use Rattle.session.specs.TurnAnswer.{turn_answer_of};
+ghost use Rattle.session.specs.Turn.{printed, turn_code, turn_refusal, after_taking, taken_of, turned_by, turn_left, turn_of};
 
-use crate::{Session, TurnAnswer, Turned, series_of};
+use crate::{Session, Taken, Turned, series_of};
 use book::Records;
 use dealing::deal::deal;
 use dealing::{Came, Dealt};
+use entry::refusal::Refusal;
+use lanes::Entries;
 use lanes::ring::{head, taken};
 use lanes::rotation::served;
-use lanes::{Entries, Served};
 use rows::{Column, ROWS};
 use tally::{count, turns_in_all};
 
 // From this many turns in all on, no turn is taken.
 const MOST_TURNS: u64 = 1000000000000000000;
 
-// The number by which a turn is refused, or 0.
-fn refusal(s: Session, lent: usize) -> u32
+// The lane that a turn serves, or why the turn is refused.
+fn lane_served(s: Session, lent: usize) -> Result<usize, Refusal>
     requires { TurnsHeld s }
-    ensures { result ≡ turn_refusal s lent }
+    ensures code { turn_code result ≡ turn_refusal s lent }
+    ensures lane { IfOk result (λ t. served s.lanes ≡ Some t) }
 {
-    let accepted = s.accepted;
-    if accepted {
-        let lanes = s.lanes;
-        let next = served(lanes);
-        let Served::Lane(_) = next else {
-            return 5;
-        };
-        if lent < ROWS {
-            return 6;
-        }
-        let tallies = s.tallies;
-        if MOST_TURNS <= turns_in_all(tallies) {
-            return 35;
-        }
-        0
-    } else {
-        21
+    if !s.accepted {
+        return Err(Refusal::NothingSet);
     }
+    let Some(t) = served(s.lanes) else {
+        return Err(Refusal::NothingWaits);
+    };
+    if lent < ROWS {
+        return Err(Refusal::FewRecords);
+    }
+    if MOST_TURNS <= turns_in_all(s.tallies) {
+        return Err(Refusal::TurnsUsedUp);
+    }
+    Ok(t)
 }
 
 // The session once the turn of lane t is taken.
@@ -53,37 +53,33 @@ fn after_taking(s: Session, t: usize) -> Session
     requires countable { Countable s.tallies t 1 0 0 }
     ensures { result ≡ after_taking s t }
 {
-    let lanes = s.lanes;
-    let tallies = s.tallies;
-    let fewer = taken(lanes, t);
-    let counted = count(tallies, t, 1, 0, 0);
-    let mut after = s;
-    after.lanes = fewer;
-    after.tallies = counted;
-    after
+    Session {
+        lanes: taken(s.lanes, t),
+        tallies: count(s.tallies, t, 1, 0, 0),
+        ..s
+    }
 }
 
 // The next number, once an entry is dealt with: an order that is accepted uses one up.
 fn next_after(next: u64, came: Came) -> u64
     requires { next ≤ no_number }
-    ensures { result ≡ next_after next came }
+    ensures { result ≡ next_after next (came_of came) }
 {
     match came {
-        Came::TurnedDown(_) => next,
-        Came::Cancelled(_) => next,
+        Came::TurnedDown(_) | Came::Cancelled(_) => next,
         Came::Accepted(_, _, _, _) => next + 1,
     }
 }
 
-// What a taken turn of tenant t answers, by what came of its entry.
-fn answer_of(t: usize, came: Came) -> TurnAnswer
-    ensures { result ≡ answer_of t came }
+// What a taken turn of tenant t comes to, by what came of its entry.
+fn taken_of(t: usize, came: Came) -> Taken
+    ensures { result ≡ taken_of t came }
 {
     match came {
-        Came::TurnedDown(code) => TurnAnswer::TurnedDown(t, code),
-        Came::Cancelled(number) => TurnAnswer::Cancelled(t, number),
+        Came::TurnedDown(why) => Taken::TurnedDown(t, why),
+        Came::Cancelled(number) => Taken::Cancelled(t, number),
         Came::Accepted(number, filled, disposition, fills) => {
-            TurnAnswer::Accepted(t, number, filled, disposition, fills)
+            Taken::Accepted(t, number, filled, disposition, fills)
         }
     }
 }
@@ -93,15 +89,14 @@ fn answered(s: Session, t: usize, done: Dealt) -> Turned
     requires { s.next ≤ no_number }
     ensures { result ≡ turned_by s t done }
 {
-    let came = done.came;
-    let left = done.tallies;
-    let next = next_after(s.next, came);
-    let mut after = s;
-    after.next = next;
-    after.tallies = left;
+    let tallies = done.tallies;
     Turned {
-        session: after,
-        answer: answer_of(t, came),
+        session: Session {
+            next: next_after(s.next, done.came),
+            tallies,
+            ..s
+        },
+        answer: Ok(taken_of(t, done.came)),
     }
 }
 
@@ -123,30 +118,31 @@ pub fn turn_core(
     ensures exact { turn_left result sides prices sizes owners numbers entries records
         ≡ turn_of (market_found_turning s sides prices sizes owners numbers entries) lent records.old }
     ensures sound { Sound (market_left_turning result.session sides prices sizes owners numbers entries) }
-    ensures values { printed result.answer
+    ensures values { printed (turn_answer_of result.answer)
         ≡ printed (turn_of (market_found_turning s sides prices sizes owners numbers entries) lent records.old).answer }
 {
-    let code = refusal(s, lent);
-    if 0 < code {
-        return Turned {
+    match lane_served(s, lent) {
+        Err(why) => Turned {
             session: s,
-            answer: TurnAnswer::Refused(code),
-        };
+            answer: Err(why),
+        },
+        Ok(t) => {
+            let e = head(s.lanes, entries, t);
+            let after = after_taking(s, t);
+            let done = deal(
+                series_of(after),
+                after.tallies,
+                after.next,
+                t,
+                e,
+                sides,
+                prices,
+                sizes,
+                owners,
+                numbers,
+                records,
+            );
+            answered(after, t, done)
+        }
     }
-    let lanes = s.lanes;
-    let next = served(lanes);
-    let Served::Lane(t) = next else {
-        return Turned {
-            session: s,
-            answer: TurnAnswer::Refused(5),
-        };
-    };
-    let e = head(lanes, entries, t);
-    let after = after_taking(s, t);
-    let series = series_of(after);
-    let tallies = after.tallies;
-    let done = deal(
-        series, tallies, after.next, t, e, sides, prices, sizes, owners, numbers, records,
-    );
-    answered(after, t, done)
 }

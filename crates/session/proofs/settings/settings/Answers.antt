@@ -6,20 +6,20 @@ use Rattle.session.proofs.settings.settings.Goals as goal
 
 pub returns-in_default : goal.returns-in_default
 returns-in_default c =
-    let kept = settings_kept _ _ _ refl (settings_no_grid _ _ c.of-chosen.ensures c.in_default.is) in
+    let kept = settings_kept _ _ _ refl (settings_no_grid _ _ c.of.ensures c.in_default.is) in
     record { exact = kept.0; sound = kept.1 }
 
-pub returns-then-in_range : goal.returns-then-in_range
-returns-then-in_range c =
+pub returns-then-not-in_range : goal.returns-then-not-in_range
+returns-then-not-in_range c =
     let kept =
     settings_kept _ _ _ refl
-    (settings_accepted _ _ _ _ _ c.of-chosen.ensures c.in-One.is (sym c.in_range.ensures ∙ c.if-in_range.true) c.terms_of-terms.ensures
-    c.started-after.ensures) in
+    (settings_outside _ _ _ c.of.ensures c.in-Some.is (sym c.in_range.ensures ∙ c.if-not-in_range.true)) in
     record { exact = kept.0; sound = kept.1 }
 
-pub returns-else-in_range : goal.returns-else-in_range
-returns-else-in_range c =
+pub returns : goal.returns
+returns c =
     let kept =
     settings_kept _ _ _ refl
-    (settings_outside _ _ _ c.of-chosen.ensures c.in-One.is (sym c.in_range.ensures ∙ c.if-in_range.false)) in
+    (settings_accepted _ _ _ _ _ c.of.ensures c.in-Some.is (sym c.in_range.ensures ∙ c.if-not-in_range.false) c.terms_of-terms.ensures
+    c.started.ensures) in
     record { exact = kept.0; sound = kept.1 }

@@ -3,4 +3,4 @@ use Rattle.session.specs.TurnLaws.{taking_is}
 use Rattle.session.proofs.turn.after_taking.Goals as goal
 
 pub returns : goal.returns
-returns c = taking_is _ _ _ _ c.taken-fewer.ensures c.count-counted.ensures
+returns c = taking_is _ _ _ _ c.taken.ensures c.count.ensures
