@@ -19,7 +19,8 @@ use Rattle.figures.specs.declared.Next as told
 use Rattle.figures.specs.declared.Next.TheVariants as next
 use Rattle.figures.specs.Next.{Stop}
 use Rattle.writer.specs.declared.Refusal.{Refusal}
-use Rattle.writer.specs.WriteLaws.{some_number}
+use Rattle.writer.specs.Refusal.{refusal_of}
+use Rattle.writer.specs.WriteLaws.{of_number, some_number}
 use Rattle.figures.specs.Reading.{reader_of, Step, byte_of}
 use Rattle.figures.specs.Inscribing.{code_of, next_of, Inscribing, first, used_up, wrote, inscribe_on, inscribe_of, leaving, lines, CanInscribe, InscribesTo, CanTake, TakesTo}
 use Rattle.figures.specs.ReadingLaws.{step_small}
@@ -32,6 +33,24 @@ refused_code (Err why) h = some_number why
 no_code : (told : Result (Unit {0}) Refusal) → is_err told ≡ false → code_of told ≡ 0
 no_code (Ok _) h = refl
 no_code (Err why) h = absurd (true≢false h)
+
+-- and two that are told alike are the same
+codes_differ : (x y : Result (Unit {0}) Refusal) → code_of x ≡ code_of y → x ≡ y
+codes_differ (Ok _) (Ok _) e = refl
+codes_differ (Ok _) (Err why) e = absurd (omega (arith, some_number why))
+codes_differ (Err why) (Ok _) e = absurd (omega (arith, some_number why))
+codes_differ (Err a) (Err b) e = let same : a ≡ b = sym (of_number a) ∙ ap refusal_of e ∙ of_number b in cc
+
+pub nexts_differ : (x y : told.Next) → next_of x ≡ next_of y → x ≡ y
+nexts_differ next.Read next.Read e = refl
+nexts_differ next.Read next.Write e = absurd (cc)
+nexts_differ next.Read (next.Stop how) e = absurd (cc)
+nexts_differ next.Write next.Read e = absurd (cc)
+nexts_differ next.Write next.Write e = refl
+nexts_differ next.Write (next.Stop how) e = absurd (cc)
+nexts_differ (next.Stop how) next.Read e = absurd (cc)
+nexts_differ (next.Stop how) next.Write e = absurd (cc)
+nexts_differ (next.Stop how) (next.Stop what) e = ap next.Stop (codes_differ how what (cc))
 
 -- bytes written before bytes
 wrote_twice : (xs ys : List ℕ) (q : Inscribing) → wrote xs (wrote ys q) ≡ wrote (xs ++ ys) q

@@ -4,7 +4,6 @@ ghost use Rattle.figures.specs.Reading.{moved_of, misplaced, digit_of, end_of, n
 ghost use Rattle.figures.specs.Inscribing.{Keeps, CanTake, TakesTo};
 
 use crate::Place;
-use units::MOST_32;
 use writer::{Refusal, write};
 
 const SPACE: u8 = b' ';
@@ -33,15 +32,12 @@ fn digit(b: u8, place: Place) -> Option<Place>
     if misplaced(b, place) {
         return None;
     }
-    let value = 10 * place.value as u64 + (b - b'0') as u64;
-    if value > MOST_32 as u64 {
-        return None;
-    }
+    let tens = place.value.checked_mul(10)?;
+    let value = tens.checked_add(u32::from(b - b'0'))?;
     Some(Place {
-        line: place.line,
-        count: place.count,
         begun: true,
-        value: value as u32,
+        value,
+        ..place
     })
 }
 
@@ -54,10 +50,10 @@ fn end_number(place: Place, numbers: &mut [u32]) -> Option<Place>
     if place.begun && count < numbers.len() {
         numbers[count] = place.value;
         Some(Place {
-            line: place.line,
             count: count + 1,
             begun: false,
             value: 0,
+            ..place
         })
     } else {
         None

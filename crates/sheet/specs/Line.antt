@@ -17,8 +17,8 @@ pub data LineRead : Type 0 where
   Right : Order → LineRead
   Wrong : ℕ → LineRead
 
--- 42 over 64 bytes without a newline; 43 a wrong or missing word; 44 a wrong or missing number, price or dash; 45 a last
--- line without its newline
+-- 42 over 64 bytes without a newline; 43 a wrong or missing word; 44 a wrong or missing number, price or dash; 45 a
+-- last line without its newline
 abbrev pub refusal_number : Refusal → ℕ
 refusal_number refusal.TooLong = 42
 refusal_number refusal.WrongWord = 43

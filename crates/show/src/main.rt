@@ -7,9 +7,9 @@ use entry::Settings;
 use fills::on_row::{OnRow, open_on_row, turn_on_row};
 use fills::turn_fills;
 use lanes::ALL_ENTRIES;
-use session::{Session, Turned};
 use session::settings::settings;
 use session::submit::submit;
+use session::{Session, Turned};
 use std::io;
 use units::Cents;
 
@@ -57,25 +57,12 @@ fn main(rt: HostRuntime) -> io::Result<()> {
     let mut entries = [0u32; ALL_ENTRIES];
     let buy = [1u32, 1, 1, 100, 5, 0];
     let sell = [1u32, 2, 2, 100, 3, 0];
-    let set = settings(
-        Session::new(),
-        worked(),
-        &mut book,
-        &mut entries,
-    );
+    let set = settings(Session::new(), worked(), &mut book, &mut entries);
     let quiet = open_on_row(set.session, &mut book);
     let buys = submit(quiet.returned.session, 2, 1, &buy, &mut entries);
     let sells = submit(buys.session, 7, 1, &sell, &mut entries);
-    let first = turn_on_row(
-        sells.session,
-        &mut book,
-        &entries,
-    );
+    let first = turn_on_row(sells.session, &mut book, &entries);
     show(&rt, &first)?;
-    let second = turn_on_row(
-        first.returned.session,
-        &mut book,
-        &entries,
-    );
+    let second = turn_on_row(first.returned.session, &mut book, &entries);
     show(&rt, &second)
 }

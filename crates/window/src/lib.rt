@@ -18,8 +18,8 @@ use std::io::{Error, ErrorKind, Read};
 // The bytes of the window that a program holds, and of its output.
 pub const WINDOW: usize = 65536;
 
-// What a read gave: the place after the bytes at hand, the place of the window's first byte in the file, and whether the
-// file may go on.
+// What a read gave: the place after the bytes at hand, the place of the window's first byte in the file, and whether
+// the file may go on.
 #[derive(Clone, Copy)]
 pub struct Filled {
     pub to: usize,
