@@ -14,6 +14,26 @@ use denote.Triple.Clauses
 use seplogic.Ra.Ura
 use prog.Memory
 use prog.Routine
+use Rattle.dealing.specs.Came.{came_one}
+use Rattle.dealing.specs.Way.{way_one}
+use Rattle.entry.specs.Refusals.{code_one, turned_down_one}
+use Rattle.figures.specs.InscribingLaws.{nexts_differ}
+use Rattle.judge.specs.Dispositions.{disposition_one}
+use Rattle.judge.specs.JudgedOf.{judged_one}
+use Rattle.playing.specs.Next.{next_one}
+use Rattle.replay.specs.SteppingLaws.{status_one}
+use Rattle.session.specs.OpenAnswer.{open_answer_of, open_answer_one}
+use Rattle.session.specs.Tallied.{tallied_one}
+use Rattle.session.specs.TurnAnswer.{turn_answer_of, turn_answer_one}
+use Rattle.sheet.specs.ReadingLaws.{steps_differ, finishes_differ}
+use Rattle.window.specs.Program.{bytes_differ}
+use Rattle.entry.proofs.refusal.Refusal.number.Reads as entry_refusal_number
+use Rattle.entry.proofs.refusal.TurnDown.number.Reads as entry_turn_down_number
+use Rattle.judge.proofs.outcome.Disposition.number.Reads as judge_disposition_number
+use Rattle.tape.proofs.Refusal.number.Reads as tape_refusal_number
+use Rattle.writer.proofs.Refusal.number.Reads as writer_refusal_number
+use Rattle.sheet.proofs.Refusal.number.Reads as sheet_refusal_number
+use Rattle.window.proofs.program.Status.byte.Reads as window_status_byte
 use Rattle.units.specs.Units.{cents, contracts, total}
 use Rattle.tally.specs.declared.Tally.{Tally}
 use Rattle.tally.specs.Tallies.{plus}
@@ -28,12 +48,11 @@ use Rattle.session.specs.declared.Opened.{Opened}
 use Rattle.session.specs.declared.Session.{Session}
 use Rattle.session.specs.declared.Turned.{Turned}
 use Rattle.dealing.specs.Floor.{Made}
-use Rattle.session.specs.Market.{Market, Called, market_of}
-use Rattle.session.specs.Open.{OpenDone, printed as printed_open}
-use Rattle.session.specs.Turn.{TurnDone, printed}
+use Rattle.session.specs.Market.{Market, Called, market_of, answered_of}
+use Rattle.session.specs.Open.{OpenDone, open_done, printed as printed_open}
+use Rattle.session.specs.Turn.{TurnDone, turn_done, printed}
 use Rattle.book.specs.declared.Fill.{Fill}
-use Rattle.fills.specs.declared.on_row.OpenedRow.{OpenedRow}
-use Rattle.fills.specs.declared.on_row.TurnedRow.{TurnedRow}
+use Rattle.fills.specs.declared.on_row.OnRow.{OnRow}
 use Rattle.fills.specs.Calls.{Stored, empty_row, turn_stored, turn_with, open_stored, open_with}
 use Rattle.fills.specs.contracts.open as fills_open
 use Rattle.fills.specs.contracts.turn as fills_turn
@@ -69,7 +88,7 @@ use Rattle.units.proofs.grid.Grid.on.Reads as units_on
 use Rattle.units.proofs.grid.Grid.at_or_below.Reads as units_at_or_below
 use Rattle.units.proofs.grid.Grid.at_or_above.Reads as units_at_or_above
 use Rattle.numeral.proofs.read.Reads as number_read
-use Rattle.numeral.proofs.refusal.Reads as number_refusal
+use Rattle.numeral.proofs.Refusal.number.Reads as number_refusal
 use Rattle.numeral.proofs.writing.length.Reads as number_length
 use Rattle.numeral.proofs.writing.write.Reads as number_write
 use Rattle.lines.proofs.line.set_line.Reads as lines_set_line
@@ -223,15 +242,24 @@ matched p q =
     let traded = same p.1.1.0 q.1.1.0 in
     (same p.1.1.1 q.1.1.1, λ i. columns (book i) (traded i ∷ records i ∷ []))
 
--- what a call answered
-answered : Called → Answered
-answered c = record { session = c.market.session; code = c.code }
+-- what a call left of the session, and what it answered, by the numbers that it answered
+called_one : {z z' : Answered} {b b' : Book} {l l' : List ℕ} → answered_of z b l ≡ answered_of z' b' l' → z ≡ z'
+called_one {z} {z'} e =
+    let session = ap (λ (c : Called). c.market.session) e in
+    let answer = code_one z.answer z'.answer (ap (λ (c : Called). c.code) e) in
+    λ i. record { session = session i; answer = answer i }
 
-turned : TurnDone → Turned
-turned d = record { session = d.market.session; answer = d.answer }
+turned_one : {z z' : Turned} {b b' : Book} {l l' r r' : List ℕ} → turn_done z b l r ≡ turn_done z' b' l' r' → z ≡ z'
+turned_one {z} {z'} e =
+    let session = ap (λ (d : TurnDone). d.market.session) e in
+    let answer = turn_answer_one z.answer z'.answer (ap (λ (d : TurnDone). d.answer) e) in
+    λ i. record { session = session i; answer = answer i }
 
-opened : OpenDone → Opened
-opened d = record { session = d.market.session; answer = d.answer }
+opened_one : {z z' : Opened} {b b' : Book} {l l' r r' : List ℕ} → open_done z b l r ≡ open_done z' b' l' r' → z ≡ z'
+opened_one {z} {z'} e =
+    let session = ap (λ (d : OpenDone). d.market.session) e in
+    let answer = open_answer_one z.answer z'.answer (ap (λ (d : OpenDone). d.answer) e) in
+    λ i. record { session = session i; answer = answer i }
 
 abbrev no_book : Book
 no_book = empty_book 0
@@ -318,7 +346,7 @@ one_figures_inscribe κs a z z' e e' p q =
     let place = same p.place q.place in
     let from = same p.from q.from in
     let at = same p.end q.end in
-    let next = same p.next q.next in
+    let next = nexts_differ z.next z'.next (same p.next q.next) in
     let numbers = same p.numbers_are q.numbers_are in
     let out = same p.laid q.laid in
     (λ i. record { place = place i; from = from i; at = at i; next = next i }, λ i. numbers i ∷ out i ∷ [])
@@ -330,10 +358,10 @@ one_sheet_new κs a z z' e e' = same
 
 -- the bytes of a line that have come
 pub one_sheet_step : OneOutcome sheet_step.Post (λ e. first e.1.1.1)
-one_sheet_step κs a z z' e e' p q = (same p.0 q.0, alone p.1 q.1)
+one_sheet_step κs a z z' e e' p q = (steps_differ z z' (same p.0 q.0), alone p.1 q.1)
 
 pub one_sheet_finish : OneResult sheet_finish.Post
-one_sheet_finish κs a z z' e e' = same
+one_sheet_finish κs a z z' e e' p q = finishes_differ z z' (same p q)
 
 -- ---- lines
 
@@ -561,15 +589,15 @@ pub one_checks_as_judged : OneResult checks_as_judged.Post
 one_checks_as_judged κs a z z' e e' = same
 
 pub one_checks_turn_down : OneResult checks_turn_down.Post
-one_checks_turn_down κs a z z' e e' = same
+one_checks_turn_down κs a z z' e e' p q = turned_down_one z z' (same p q)
 
 -- ---- judge
 
 pub one_judge_disposition : OneResult judge_disposition.Post
-one_judge_disposition κs a z z' e e' = same
+one_judge_disposition κs a z z' e e' p q = disposition_one z z' (same p q)
 
 pub one_judge_judge : OneResult judge_judge.Post
-one_judge_judge κs a z z' e e' = same
+one_judge_judge κs a z z' e e' p q = judged_one z z' (same p q)
 
 -- ---- lanes
 
@@ -621,10 +649,11 @@ one_dealing_credit κs a z z' e e' = same
 pub one_dealing_deal : OneOutcome dealing_deal.Post (λ e. columns (book_at e.1.1.1.1.1) (first e.1.1.1.1.1.1))
 one_dealing_deal κs a z z' e e' p q =
     let one = same p q in
-    (λ i. record { tallies = (one i).tallies; came = (one i).came }, ap (λ (d : Made). columns d.book (d.records ∷ [])) one)
+    let came = came_one z.came z'.came (ap (λ (d : Made). d.came) one) in
+    (λ i. record { tallies = (one i).tallies; came = came i }, ap (λ (d : Made). columns d.book (d.records ∷ [])) one)
 
 pub one_dealing_which_way : OneResult dealing_which_way.Post
-one_dealing_which_way κs a z z' e e' = same
+one_dealing_which_way κs a z z' e e' p q = way_one z z' (same p q)
 
 -- the book and the fill records
 pub one_dealing_open_book : OneOutcome dealing_open_book.Post (λ e. columns (book_at e.1.1) (first e.1.1.1))
@@ -637,38 +666,33 @@ pub one_session_new : OneResult session_new.Post
 one_session_new κs a z z' e e' p q = same p.0 q.0
 
 pub one_session_away : OneResult session_away.Post
-unfolding answered
-one_session_away κs a z z' e e' p q = ap answered (same (p.0 no_book []) (q.0 no_book []))
+one_session_away κs a z z' e e' p q = called_one (same (p.0 no_book []) (q.0 no_book []))
 
 -- the columns of the book and the lanes' entries
 pub one_session_settings : OneOutcome session_settings.Post (λ e. columns (book_at e.1.1) (first e.1.1.1))
-unfolding answered
 one_session_settings κs a z z' e e' p q =
     let one = same p.0 q.0 in
-    (ap answered one, ap (λ (c : Called). columns c.market.book (c.market.entries ∷ [])) one)
+    (called_one one, ap (λ (c : Called). columns c.market.book (c.market.entries ∷ [])) one)
 
 pub one_session_submit : OneOutcome session_submit.Post (λ e. first e.1.1.1.1)
-unfolding answered
 one_session_submit κs a z z' e e' p q =
     let one = same (p.0 no_book) (q.0 no_book) in
-    (ap answered one, ap (λ (c : Called). c.market.entries ∷ []) one)
+    (called_one one, ap (λ (c : Called). c.market.entries ∷ []) one)
 
 -- the columns of the book and the fill records
 pub one_session_turn : OneOutcome session_turn.Post (λ e. columns (book_at e.1) (first e.1.1.1.1))
-unfolding turned
 one_session_turn κs a z z' e e' p q =
     let one = same p.0 q.0 in
-    (ap turned one, ap (λ (d : TurnDone). columns d.market.book (d.records ∷ [])) one)
+    (turned_one one, ap (λ (d : TurnDone). columns d.market.book (d.records ∷ [])) one)
 
 -- the columns of the book and the fill records
 pub one_session_open : OneOutcome session_open.Post (λ e. columns (book_at e.1) (first e.1.1.1))
-unfolding opened
 one_session_open κs a z z' e e' p q =
     let one = same (p.0 []) (q.0 []) in
-    (ap opened one, ap (λ (d : OpenDone). columns d.market.book (d.records ∷ [])) one)
+    (opened_one one, ap (λ (d : OpenDone). columns d.market.book (d.records ∷ [])) one)
 
 pub one_session_tally_of : OneResult session_tally_of.Post
-one_session_tally_of κs a z z' e e' = same
+one_session_tally_of κs a z z' e e' p q = tallied_one z z' (same p q)
 
 -- ---- fills
 
@@ -694,7 +718,7 @@ pub fills_turn_promise : {M : Type 1} {𝓤 : Ura.Ura M} (𝓛 : Logic 𝓤) (me
     ((Notation.connectives 𝓤).◌∗◌
     ((Notation.connectives 𝓤).⌜◌⌝ (Sound (market_of z.session (book_at e.1) a.1.1.0.now)))
     ((Notation.connectives 𝓤).⌜◌⌝ (
-    printed z.answer
+    printed (turn_answer_of z.answer)
     ≡ printed (turn_with (market_of a.0 (book_at a.1) a.1.1.0.now) a.1.1.1.0.now).answer)))
 fills_turn_promise 𝓛 mem run κs a z e = refl
 
@@ -707,7 +731,7 @@ pub fills_open_promise : {M : Type 1} {𝓤 : Ura.Ura M} (𝓛 : Logic 𝓤) (me
     ((Notation.connectives 𝓤).⌜◌⌝ (
     (entries : List ℕ) → Sound (market_of a.0 (book_at a.1) entries) → Sound (market_of z.session (book_at e.1) entries)))
     ((Notation.connectives 𝓤).⌜◌⌝ (
-    (entries : List ℕ) → printed_open z.answer
+    (entries : List ℕ) → printed_open (open_answer_of z.answer)
     ≡ printed_open (open_with (market_of a.0 (book_at a.1) entries) a.1.1.0.now).answer)))
 fills_open_promise 𝓛 mem run κs a z e = refl
 
@@ -717,11 +741,11 @@ pub fills_turn_on_row_promise : {M : Type 1} {𝓤 : Ura.Ura M} (𝓛 : Logic �
     → (fills_turn_on_row.clauses 𝓛 mem run κs a).ensures tt z e
     ≡ (Notation.connectives 𝓤).◌∗◌
     ((Notation.connectives 𝓤).⌜◌⌝ (
-    TurnAs (market_of a.0 (book_at a.1) a.1.1.0.now) empty_row z.turned (book_at e.1) a.1.1.0.now z.row))
+    TurnAs (market_of a.0 (book_at a.1) a.1.1.0.now) empty_row z.returned (book_at e.1) a.1.1.0.now z.row))
     ((Notation.connectives 𝓤).◌∗◌
-    ((Notation.connectives 𝓤).⌜◌⌝ (Sound (market_of z.turned.session (book_at e.1) a.1.1.0.now)))
+    ((Notation.connectives 𝓤).⌜◌⌝ (Sound (market_of z.returned.session (book_at e.1) a.1.1.0.now)))
     ((Notation.connectives 𝓤).⌜◌⌝ (
-    printed z.turned.answer
+    printed (turn_answer_of z.returned.answer)
     ≡ printed (turn_with (market_of a.0 (book_at a.1) a.1.1.0.now) empty_row).answer)))
 fills_turn_on_row_promise 𝓛 mem run κs a z e = refl
 
@@ -729,12 +753,12 @@ pub fills_open_on_row_promise : {M : Type 1} {𝓤 : Ura.Ura M} (𝓛 : Logic �
     (κs : Lifetimes.Lfts 1) (a : World.ArgsD fills_open_on_row.signature κs) (z : World.ResD fills_open_on_row.signature κs) (e : Clauses.AtExit fills_open_on_row.ended κs)
     → (fills_open_on_row.clauses 𝓛 mem run κs a).ensures tt z e
     ≡ (Notation.connectives 𝓤).◌∗◌
-    ((Notation.connectives 𝓤).⌜◌⌝ (OpenAs a.0 (book_at a.1) empty_row z.opened (book_at e.1) z.row))
+    ((Notation.connectives 𝓤).⌜◌⌝ (OpenAs a.0 (book_at a.1) empty_row z.returned (book_at e.1) z.row))
     ((Notation.connectives 𝓤).◌∗◌
     ((Notation.connectives 𝓤).⌜◌⌝ (
-    (entries : List ℕ) → Sound (market_of a.0 (book_at a.1) entries) → Sound (market_of z.opened.session (book_at e.1) entries)))
+    (entries : List ℕ) → Sound (market_of a.0 (book_at a.1) entries) → Sound (market_of z.returned.session (book_at e.1) entries)))
     ((Notation.connectives 𝓤).⌜◌⌝ (
-    (entries : List ℕ) → printed_open z.opened.answer ≡ printed_open (open_with (market_of a.0 (book_at a.1) entries) empty_row).answer)))
+    (entries : List ℕ) → printed_open (open_answer_of z.returned.answer) ≡ printed_open (open_with (market_of a.0 (book_at a.1) entries) empty_row).answer)))
 fills_open_on_row_promise 𝓛 mem run κs a z e = refl
 
 -- each of these equations is met by one outcome
@@ -747,7 +771,8 @@ pub one_fills_turn :
     TurnAs m row r b entries left → TurnAs m row r' b' entries' left' →
     (r ≡ r') × (b ≡ b') × (entries ≡ entries') × (left ≡ left')
 one_fills_turn m row r r' b b' entries entries' left left' p q =
-    let (session, answer, book, waiting, fills) = one_stored p q in
+    let (session, told, book, waiting, fills) = one_stored p q in
+    let answer = turn_answer_one r.answer r'.answer told in
     (λ i. record { session = session i; answer = answer i }, book, waiting, fills)
 
 pub one_fills_open :
@@ -755,24 +780,25 @@ pub one_fills_open :
     OpenAs s found row r b left → OpenAs s found row r' b' left' →
     (r ≡ r') × (b ≡ b') × (left ≡ left')
 one_fills_open s found row r r' b b' left left' p q =
-    let (session, answer, book, waiting, fills) = one_stored (p []) (q []) in
+    let (session, told, book, waiting, fills) = one_stored (p []) (q []) in
+    let answer = open_answer_one r.answer r'.answer told in
     (λ i. record { session = session i; answer = answer i }, book, fills)
 
 pub one_fills_turn_on_row :
-    (m : Market) (r r' : TurnedRow) (b b' : Book) (entries entries' : List ℕ) →
-    TurnAs m empty_row r.turned b entries r.row → TurnAs m empty_row r'.turned b' entries' r'.row →
+    (m : Market) (r r' : OnRow Turned) (b b' : Book) (entries entries' : List ℕ) →
+    TurnAs m empty_row r.returned b entries r.row → TurnAs m empty_row r'.returned b' entries' r'.row →
     (r ≡ r') × (b ≡ b') × (entries ≡ entries')
 one_fills_turn_on_row m r r' b b' entries entries' p q =
-    let (turned, book, waiting, row) = one_fills_turn m empty_row r.turned r'.turned b b' entries entries' r.row r'.row p q in
-    (λ i. record { turned = turned i; row = row i }, book, waiting)
+    let (turned, book, waiting, row) = one_fills_turn m empty_row r.returned r'.returned b b' entries entries' r.row r'.row p q in
+    (λ i. record { returned = turned i; row = row i }, book, waiting)
 
 pub one_fills_open_on_row :
-    (s : Session) (found : Book) (r r' : OpenedRow) (b b' : Book) →
-    OpenAs s found empty_row r.opened b r.row → OpenAs s found empty_row r'.opened b' r'.row →
+    (s : Session) (found : Book) (r r' : OnRow Opened) (b b' : Book) →
+    OpenAs s found empty_row r.returned b r.row → OpenAs s found empty_row r'.returned b' r'.row →
     (r ≡ r') × (b ≡ b')
 one_fills_open_on_row s found r r' b b' p q =
-    let (opened, book, row) = one_fills_open s found empty_row r.opened r'.opened b b' r.row r'.row p q in
-    (λ i. record { opened = opened i; row = row i }, book)
+    let (opened, book, row) = one_fills_open s found empty_row r.returned r'.returned b b' r.row r'.row p q in
+    (λ i. record { returned = opened i; row = row i }, book)
 
 -- ---- replay
 
@@ -788,10 +814,10 @@ one_replay_step κs a z z' e e' p q =
     let m = same p.market q.market in
     let at = same p.laid.end q.laid.end in
     let from = same p.next q.next in
-    let status = same p.status q.status in
+    let ending = status_one z.ending z'.ending (same p.status q.status) in
     let given = same p.given_is q.given_is in
     let out = same p.laid.stored q.laid.stored in
-    (λ i. record { session = (m i).session; at = at i; from = from i; status = status i }, λ i. given i ∷ columns (m i).book ((m i).entries ∷ out i ∷ []))
+    (λ i. record { session = (m i).session; at = at i; from = from i; ending = ending i }, λ i. given i ∷ columns (m i).book ((m i).entries ∷ out i ∷ []))
 
 pub one_replay_tally_lines : OneOutcome replay_tally_lines.Post (λ e. first e.1)
 one_replay_tally_lines κs a z z' e e' = laid
@@ -807,10 +833,10 @@ pub one_window_tell : OneResult window_tell.Post
 one_window_tell κs a z z' e e' p q = refl
 
 pub one_window_status_after : OneResult window_status_after.Post
-one_window_status_after κs a z z' e e' = same
+one_window_status_after κs a z z' e e' p q = bytes_differ z z' (same p q)
 
 pub one_window_status_of : OneResult window_status_of.Post
-one_window_status_of κs a z z' e e' = same
+one_window_status_of κs a z z' e e' p q = bytes_differ z z' (same p q)
 
 pub one_window_tell_line : OneResult window_tell_line.Post
 one_window_tell_line κs a z z' e e' p q = refl
@@ -822,7 +848,30 @@ one_playing_play κs a z z' e e' p q =
     let m = same p.market q.market in
     let at = same p.laid.end q.laid.end in
     let from = same p.from q.from in
-    let next = same p.next q.next in
+    let next = next_one z.next z'.next (same p.next q.next) in
     let given = same p.given_is q.given_is in
     let out = same p.laid.stored q.laid.stored in
     (λ i. record { session = (m i).session; at = at i; from = from i; next = next i }, λ i. given i ∷ columns (m i).book ((m i).entries ∷ out i ∷ []))
+
+-- ---- numbers of refusals and of what becomes of orders
+
+pub one_entry_refusal_number : OneResult entry_refusal_number.Post
+one_entry_refusal_number κs a z z' e e' = same
+
+pub one_entry_turn_down_number : OneResult entry_turn_down_number.Post
+one_entry_turn_down_number κs a z z' e e' = same
+
+pub one_judge_disposition_number : OneResult judge_disposition_number.Post
+one_judge_disposition_number κs a z z' e e' = same
+
+pub one_tape_refusal_number : OneResult tape_refusal_number.Post
+one_tape_refusal_number κs a z z' e e' = same
+
+pub one_writer_refusal_number : OneResult writer_refusal_number.Post
+one_writer_refusal_number κs a z z' e e' = same
+
+pub one_sheet_refusal_number : OneResult sheet_refusal_number.Post
+one_sheet_refusal_number κs a z z' e e' = same
+
+pub one_window_status_byte : OneResult window_status_byte.Post
+one_window_status_byte κs a z z' e e' = same

@@ -29,8 +29,8 @@ use Rattle.judge.specs.Verdict.{verdict}
 use Rattle.lanes.specs.Ring.{lane_of, entry_at, slot, waiting_at, put, put_all, joined, taken}
 use Rattle.lanes.specs.Rotation.{distance, served_by, served}
 use Rattle.price.specs.Price.{usable, midpoint, valid, first_valid, price_of}
-use Rattle.session.specs.declared.TurnAnswer.{TurnAnswer}
-use Rattle.session.specs.declared.TurnAnswer.TheVariants as answer
+use Rattle.session.specs.TurnAnswer.{TurnAnswer}
+use Rattle.session.specs.TurnAnswer as answer
 use Rattle.session.specs.Market.{Market}
 use Rattle.session.specs.Settings.{settings_of}
 use Rattle.lanes.specs.Bulk.{well_counted, some_malformed}
