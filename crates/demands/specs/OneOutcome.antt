@@ -1,7 +1,9 @@
 -- One outcome: for each function that another crate may call, two outcomes that meet its promise are equal, result and
 -- lent memory. The promise is cited as its contract has it: `Post`, of the lifetimes, the arguments, the result, and
 -- the arguments as the function leaves them; `now` of an argument is what stands in the memory lent by it.
-use Rattle.std.specs.Prelude.{◌≡◌, refl, List, [], ◌∷◌, ℕ}
+use Rattle.std.specs.Prelude.{◌≡◌, refl, Bool, List, [], ◌∷◌, ℕ, ◌-◌, min, max}
+use Rattle.units.specs.Picked.{keep}
+use Rattle.units.specs.Tests.{◌and◌, ◌or◌, is_not, pick}
 use Rattle.std.proofs.Common.{sym, ◌∙◌, ap}
 use base.Logic
 use borrow.Fn.World
@@ -77,10 +79,6 @@ use Rattle.opening.proofs.matching.open_at.Reads as opening_open_at
 use Rattle.lanes.proofs.ring.put_all.Reads as lanes_put_all
 use Rattle.session.proofs.settings.settings.Reads as session_settings
 use Rattle.session.proofs.submit.submit.Reads as session_submit
-use Rattle.units.proofs.words.both.Reads as units_both
-use Rattle.units.proofs.words.either.Reads as units_either
-use Rattle.units.proofs.words.is_not.Reads as units_is_not
-use Rattle.units.proofs.words.first.Reads as units_first
 use Rattle.units.proofs.grid.Grid.of.Reads as units_of
 use Rattle.units.proofs.grid.Grid.lowest.Reads as units_lowest
 use Rattle.units.proofs.grid.Grid.step.Reads as units_step
@@ -115,13 +113,6 @@ use Rattle.figures.proofs.inscribe.Reads as figures_inscribe
 use Rattle.sheet.proofs.Place.new.Reads as sheet_new
 use Rattle.sheet.proofs.step.Reads as sheet_step
 use Rattle.sheet.proofs.finish.Reads as sheet_finish
-use Rattle.rows.proofs.row.lesser.Reads as rows_lesser
-use Rattle.rows.proofs.row.lesser_wide.Reads as rows_lesser_wide
-use Rattle.rows.proofs.row.greater.Reads as rows_greater
-use Rattle.rows.proofs.row.beyond.Reads as rows_beyond
-use Rattle.rows.proofs.row.beyond_wide.Reads as rows_beyond_wide
-use Rattle.rows.proofs.row.wide.Reads as rows_wide
-use Rattle.rows.proofs.row.one.Reads as rows_one
 use Rattle.rows.proofs.row.key.Reads as rows_key
 use Rattle.rows.proofs.row.open_size.Reads as rows_open_size
 use Rattle.rows.proofs.row.reachable.Reads as rows_reachable
@@ -148,7 +139,6 @@ use Rattle.tally.proofs.count.Reads as tally_count
 use Rattle.tally.proofs.turns_in_all.Reads as tally_turns_in_all
 use Rattle.entry.proofs.words.wide.Reads as entry_wide
 use Rattle.entry.proofs.words.plus.Reads as entry_plus
-use Rattle.entry.proofs.words.less.Reads as entry_less
 use Rattle.entry.proofs.form.malformed.Reads as entry_malformed
 use Rattle.entry.proofs.ranges.in_range.Reads as entry_in_range
 use Rattle.entry.proofs.ranges.terms_of.Reads as entry_terms_of
@@ -196,6 +186,11 @@ OneOutcome {K} {A} {Z} {E} P lent = (κs : K) (a : A) (z z' : Z) (e e' : E) → 
 -- two things equal to the same are equal
 same : {A : Type 0} {a b c : A} → a ≡ c → b ≡ c → a ≡ b
 same p q = p ∙ sym q
+
+-- what the language's tests and the library's methods promise of a result, where no function of the repository stands
+-- for them: two results that meet it are equal
+abbrev pub OneOf : {A : Type 0} → A → Type 0
+OneOf {A} v = (r s : A) → r ≡ v → s ≡ v → r ≡ s
 
 -- ---- memory lent
 
@@ -266,17 +261,17 @@ no_book = empty_book 0
 
 -- ---- units
 
-pub one_units_both : OneResult units_both.Post
-one_units_both κs a z z' e e' = same
+pub one_units_both : (a b : Bool) → OneOf (a and b)
+one_units_both a b r s = same
 
-pub one_units_either : OneResult units_either.Post
-one_units_either κs a z z' e e' = same
+pub one_units_either : (a b : Bool) → OneOf (a or b)
+one_units_either a b r s = same
 
-pub one_units_is_not : OneResult units_is_not.Post
-one_units_is_not κs a z z' e e' = same
+pub one_units_is_not : (a : Bool) → OneOf (is_not a)
+one_units_is_not a r s = same
 
-pub one_units_first : OneResult units_first.Post
-one_units_first κs a z z' e e' = same
+pub one_units_first : (test : Bool) (number rest : ℕ) → OneOf (pick test number rest)
+one_units_first test number rest r s = same
 
 pub one_units_of : OneResult units_of.Post
 one_units_of κs a z z' e e' = same
@@ -407,26 +402,26 @@ one_lines_next_gone κs a z z' e e' = same
 
 -- ---- rows
 
-pub one_rows_lesser : OneResult rows_lesser.Post
-one_rows_lesser κs a z z' e e' = same
+pub one_rows_lesser : (a b : ℕ) → OneOf (min a b)
+one_rows_lesser a b r s = same
 
-pub one_rows_lesser_wide : OneResult rows_lesser_wide.Post
-one_rows_lesser_wide κs a z z' e e' = same
+pub one_rows_lesser_wide : (a b : ℕ) → OneOf (min a b)
+one_rows_lesser_wide a b r s = same
 
-pub one_rows_greater : OneResult rows_greater.Post
-one_rows_greater κs a z z' e e' = same
+pub one_rows_greater : (a b : ℕ) → OneOf (max a b)
+one_rows_greater a b r s = same
 
-pub one_rows_beyond : OneResult rows_beyond.Post
-one_rows_beyond κs a z z' e e' = same
+pub one_rows_beyond : (a b : ℕ) → OneOf (a - b)
+one_rows_beyond a b r s = same
 
-pub one_rows_beyond_wide : OneResult rows_beyond_wide.Post
-one_rows_beyond_wide κs a z z' e e' = same
+pub one_rows_beyond_wide : (a b : ℕ) → OneOf (a - b)
+one_rows_beyond_wide a b r s = same
 
-pub one_rows_wide : OneResult rows_wide.Post
-one_rows_wide κs a z z' e e' = same
+pub one_rows_wide : (x : ℕ) → OneOf x
+one_rows_wide x r s = same
 
-pub one_rows_one : OneResult rows_one.Post
-one_rows_one κs a z z' e e' = same
+pub one_rows_one : (test : Bool) → OneOf (keep test 1)
+one_rows_one test r s = same
 
 pub one_rows_key : OneResult rows_key.Post
 one_rows_key κs a z z' e e' = same
@@ -568,8 +563,8 @@ one_entry_wide κs a z z' e e' = same
 pub one_entry_plus : OneResult entry_plus.Post
 one_entry_plus κs a z z' e e' = same
 
-pub one_entry_less : OneResult entry_less.Post
-one_entry_less κs a z z' e e' p q = ap cents (same p q)
+pub one_entry_less : (a b : ℕ) → OneOf (a - b)
+one_entry_less a b r s = same
 
 pub one_entry_malformed : OneResult entry_malformed.Post
 one_entry_malformed κs a z z' e e' = same

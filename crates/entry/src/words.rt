@@ -1,5 +1,5 @@
-// The words for prices that the rules add and take away, in numbers that hold any two of them.
-ghost use Rattle.std.specs.Prelude.{◌≡◌, ◌+◌, ◌-◌};
+// Prices that the rules add, in numbers that hold any two of them.
+ghost use Rattle.std.specs.Prelude.{◌≡◌, ◌+◌};
 
 use units::Cents;
 
@@ -15,11 +15,4 @@ pub fn plus(a: Cents, b: Cents) -> u64
     ensures { result ≡ a.0 + b.0 }
 {
     u64::from(a.0) + u64::from(b.0)
-}
-
-// What the first price has beyond the second, if anything.
-pub fn less(a: Cents, b: Cents) -> Cents
-    ensures { result.0 ≡ a.0 - b.0 }
-{
-    Cents(a.0.saturating_sub(b.0))
 }

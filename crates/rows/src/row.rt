@@ -1,59 +1,9 @@
 // What one row counts for, by its side, its price, its size, its owner and its order number.
-ghost use Rattle.std.specs.Prelude.{◌≡◌, ◌-◌, min, max, ltb};
-ghost use Rattle.units.specs.Picked.{keep};
+ghost use Rattle.std.specs.Prelude.{◌≡◌, ltb};
 ghost use Rattle.rows.specs.Rows.{key_of, within, open_size, buy_price, sell_price, rests_for, is_order};
 
 use crate::{BUY, HIGHEST, NO_PRICE, SELL};
 use units::{Cents, Contracts};
-
-// The lesser of two.
-pub fn lesser(a: u32, b: u32) -> u32
-    ensures { result ≡ min a b }
-{
-    if a < b { a } else { b }
-}
-
-// The lesser of two wider numbers.
-pub fn lesser_wide(a: u64, b: u64) -> u64
-    ensures { result ≡ min a b }
-{
-    if b < a { b } else { a }
-}
-
-// The greater of two.
-pub fn greater(a: u32, b: u32) -> u32
-    ensures { result ≡ max a b }
-{
-    if a < b { b } else { a }
-}
-
-// What a has beyond b, if anything.
-pub fn beyond(a: u32, b: u32) -> u32
-    ensures { result ≡ a - b }
-{
-    if b < a { a - b } else { 0 }
-}
-
-// What a has beyond b, if anything, in wider numbers.
-pub fn beyond_wide(a: u64, b: u64) -> u64
-    ensures { result ≡ a - b }
-{
-    if a <= b { 0 } else { a - b }
-}
-
-// A number for a sum of many, which fits a wider one.
-pub fn wide(x: u32) -> u64
-    ensures { result ≡ x }
-{
-    x as u64
-}
-
-// 1 where the test holds, else 0.
-pub fn one(test: bool) -> u32
-    ensures { result ≡ keep test 1 }
-{
-    if test { 1 } else { 0 }
-}
 
 // A lower key is a better price.
 pub fn key(side: u32, price: Cents) -> u32

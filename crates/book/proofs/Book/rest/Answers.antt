@@ -11,5 +11,5 @@ returns-then-row-lt-ROWS c = rested_there _ _ c.free_row-row.ensures _ _ _ _ _
 pub returns-else-row-lt-ROWS : goal.returns-else-row-lt-ROWS
 returns-else-row-lt-ROWS c =
     let long : Whole (book_in c.args.self.now) =
-        record { sides_long = omega arith; prices_long = omega arith; sizes_long = omega arith; owners_long = omega arith; numbers_long = omega arith } in
+    record { sides_long = omega arith; prices_long = omega arith; sizes_long = omega arith; owners_long = omega arith; numbers_long = omega arith } in
     rested_full _ long _ c.free_row-row.ensures c.if-row-lt-ROWS.false _ _ _ _ _
