@@ -11,7 +11,7 @@ use contract.Lifetimes
 use contract.Monad
 use contract.Notation
 use types.Logic.{Logic}
-use Rattle.std.specs.Borrow.{Bor, MutBor}
+use Rattle.std.specs.Borrow.{MutBor}
 use denote.Triple.Clauses
 use seplogic.Ra.Ura
 use prog.Memory
