@@ -1,7 +1,7 @@
 -- One outcome: for each function that another crate may call, two outcomes that meet its promise are equal, result and
 -- lent memory. The promise is cited as its contract has it: `Post`, of the lifetimes, the arguments, the result, and
 -- the arguments as the function leaves them; `now` of an argument is what stands in the memory lent by it.
-use Rattle.std.specs.Prelude.{◌≡◌, refl, Bool, List, [], ◌∷◌, ℕ, ◌-◌, min, max}
+use Rattle.std.specs.Prelude.{◌≡◌, refl, Bool, List, [], ◌∷◌, ℕ, ◌-◌, min, max, Result}
 use Rattle.units.specs.Picked.{keep}
 use Rattle.units.specs.Tests.{◌and◌, ◌or◌, is_not, pick}
 use Rattle.std.proofs.Common.{sym, ◌∙◌, ap}
@@ -45,14 +45,16 @@ use Rattle.book.specs.Lent.{book_in}
 use Rattle.book.specs.declared.Book.{Book as Columns}
 use Rattle.book.proofs.Book.new.Reads as book_new
 use Rattle.lines.specs.Laying.{Laid}
-use Rattle.session.specs.declared.Answered.{Answered}
-use Rattle.session.specs.declared.Opened.{Opened}
+use Rattle.session.specs.Left.{Opened}
+use Rattle.entry.specs.declared.refusal.Refusal.{Refusal}
+use Rattle.session.specs.declared.Opening.{Opening}
 use Rattle.session.specs.declared.Session.{Session}
-use Rattle.session.specs.declared.Turned.{Turned}
+use Rattle.session.specs.declared.Taken.{Taken}
+use Rattle.session.specs.Left.{Turned}
 use Rattle.dealing.specs.Floor.{Made}
-use Rattle.session.specs.Market.{Market, Called, market_of, answered_of}
-use Rattle.session.specs.Open.{OpenDone, open_done, printed as printed_open}
-use Rattle.session.specs.Turn.{TurnDone, turn_done, printed}
+use Rattle.session.specs.Market.{Market, Called, market_of, called}
+use Rattle.session.specs.Open.{OpenDone, open_called, printed as printed_open}
+use Rattle.session.specs.Turn.{TurnDone, turn_called, printed}
 use Rattle.book.specs.declared.Fill.{Fill}
 use Rattle.fills.specs.declared.on_row.OnRow.{OnRow}
 use Rattle.fills.specs.Calls.{Stored, empty_row, turn_stored, turn_with, open_stored, open_with}
@@ -77,8 +79,8 @@ use Rattle.book.proofs.trading.remove.Reads as book_remove
 use Rattle.book.proofs.Book.trade.Reads as book_trade
 use Rattle.opening.proofs.matching.open_at.Reads as opening_open_at
 use Rattle.lanes.proofs.ring.put_all.Reads as lanes_put_all
-use Rattle.session.proofs.settings.settings.Reads as session_settings
-use Rattle.session.proofs.submit.submit.Reads as session_submit
+use Rattle.session.proofs.Session.settings.Reads as session_settings
+use Rattle.session.proofs.Session.submit.Reads as session_submit
 use Rattle.units.proofs.grid.Grid.of.Reads as units_of
 use Rattle.units.proofs.grid.Grid.lowest.Reads as units_lowest
 use Rattle.units.proofs.grid.Grid.step.Reads as units_step
@@ -163,10 +165,10 @@ use Rattle.dealing.proofs.deal.deal.Reads as dealing_deal
 use Rattle.dealing.proofs.open.open_book.Reads as dealing_open_book
 use Rattle.dealing.proofs.open.which_way.Reads as dealing_which_way
 use Rattle.session.proofs.Session.new.Reads as session_new
-use Rattle.session.proofs.turn.turn_core.Reads as session_turn
-use Rattle.session.proofs.open.open_core.Reads as session_open
-use Rattle.session.proofs.away.away.Reads as session_away
-use Rattle.session.proofs.reading.tally_of.Reads as session_tally_of
+use Rattle.session.proofs.Session.turn_core.Reads as session_turn
+use Rattle.session.proofs.Session.open_core.Reads as session_open
+use Rattle.session.proofs.Session.away.Reads as session_away
+use Rattle.session.proofs.Session.tally_of.Reads as session_tally_of
 use Rattle.replay.proofs.tallying.tally_lines.Reads as replay_tally_lines
 use Rattle.window.proofs.is_short.Reads as window_is_short
 use Rattle.window.proofs.program.tell.Reads as window_tell
@@ -183,6 +185,11 @@ OneResult {K} {A} {Z} {E} P = (κs : K) (a : A) (z z' : Z) (e e' : E) → P κs 
 abbrev pub OneOutcome : {K A Z E : Type 0} → (K → A → Z → E → Type 0) → (E → List (List ℕ)) → Type 0
 OneOutcome {K} {A} {Z} {E} P lent = (κs : K) (a : A) (z z' : Z) (e e' : E) → P κs a z e → P κs a z' e' → (z ≡ z') × (lent e ≡ lent e')
 
+-- and so is the session that is lent
+abbrev pub OneCall : {K A Z E : Type 0} → (K → A → Z → E → Type 0) → (E → Session) → (E → List (List ℕ)) → Type 0
+OneCall {K} {A} {Z} {E} P left lent =
+    (κs : K) (a : A) (z z' : Z) (e e' : E) → P κs a z e → P κs a z' e' → (z ≡ z') × (left e ≡ left e') × (lent e ≡ lent e')
+
 -- two things equal to the same are equal
 same : {A : Type 0} {a b c : A} → a ≡ c → b ≡ c → a ≡ b
 same p q = p ∙ sym q
@@ -194,12 +201,16 @@ OneOf {A} v = (r s : A) → r ≡ v → s ≡ v → r ≡ s
 
 -- ---- memory lent
 
--- a list of numbers lent to be changed, and a book; and of parameters in a row what the first is left with
+-- a list of numbers lent to be changed, a book, and a session that is lent first; and of parameters in a row what the
+-- first is left with
 abbrev Lent : Type 0
 Lent = MutBor (List ℕ)
 
 abbrev LentBook : Type 0
 LentBook = MutBor Columns
+
+abbrev pub left : {X : Type 0} → MutBor Session × X → Session
+left e = e.0.now
 
 abbrev pub first : {X : Type 0} → Lent × X → List (List ℕ)
 first e = e.0.now ∷ []
@@ -238,23 +249,14 @@ matched p q =
     (same p.1.1.1 q.1.1.1, λ i. columns (book i) (traded i ∷ records i ∷ []))
 
 -- what a call left of the session, and what it answered, by the numbers that it answered
-called_one : {z z' : Answered} {b b' : Book} {l l' : List ℕ} → answered_of z b l ≡ answered_of z' b' l' → z ≡ z'
-called_one {z} {z'} e =
-    let session = ap (λ (c : Called). c.market.session) e in
-    let answer = code_one z.answer z'.answer (ap (λ (c : Called). c.code) e) in
-    λ i. record { session = session i; answer = answer i }
+called_one : {s s' : Session} {z z' : Result Unit Refusal} {b b' : Book} {l l' : List ℕ} → called s z b l ≡ called s' z' b' l' → (z ≡ z') × (s ≡ s')
+called_one {z = z} {z' = z'} e = (code_one z z' (ap (λ (c : Called). c.code) e), ap (λ (c : Called). c.market.session) e)
 
-turned_one : {z z' : Turned} {b b' : Book} {l l' r r' : List ℕ} → turn_done z b l r ≡ turn_done z' b' l' r' → z ≡ z'
-turned_one {z} {z'} e =
-    let session = ap (λ (d : TurnDone). d.market.session) e in
-    let answer = turn_answer_one z.answer z'.answer (ap (λ (d : TurnDone). d.answer) e) in
-    λ i. record { session = session i; answer = answer i }
+turned_one : {s s' : Session} {z z' : Result Taken Refusal} {b b' : Book} {l l' r r' : List ℕ} → turn_called s z b l r ≡ turn_called s' z' b' l' r' → (z ≡ z') × (s ≡ s')
+turned_one {z = z} {z' = z'} e = (turn_answer_one z z' (ap (λ (d : TurnDone). d.answer) e), ap (λ (d : TurnDone). d.market.session) e)
 
-opened_one : {z z' : Opened} {b b' : Book} {l l' r r' : List ℕ} → open_done z b l r ≡ open_done z' b' l' r' → z ≡ z'
-opened_one {z} {z'} e =
-    let session = ap (λ (d : OpenDone). d.market.session) e in
-    let answer = open_answer_one z.answer z'.answer (ap (λ (d : OpenDone). d.answer) e) in
-    λ i. record { session = session i; answer = answer i }
+opened_one : {s s' : Session} {z z' : Result Opening Refusal} {b b' : Book} {l l' r r' : List ℕ} → open_called s z b l r ≡ open_called s' z' b' l' r' → (z ≡ z') × (s ≡ s')
+opened_one {z = z} {z' = z'} e = (open_answer_one z z' (ap (λ (d : OpenDone). d.answer) e), ap (λ (d : OpenDone). d.market.session) e)
 
 abbrev no_book : Book
 no_book = empty_book 0
@@ -660,31 +662,34 @@ one_dealing_open_book κs a z z' e e' p q =
 pub one_session_new : OneResult session_new.Post
 one_session_new κs a z z' e e' p q = same p.0 q.0
 
-pub one_session_away : OneResult session_away.Post
-one_session_away κs a z z' e e' p q = called_one (same (p.0 no_book []) (q.0 no_book []))
+pub one_session_away : OneCall session_away.Post left (λ e. [])
+one_session_away κs a z z' e e' p q = let (answer, session) = called_one (same (p.0 no_book []) (q.0 no_book [])) in (answer, session, refl)
 
 -- the columns of the book and the lanes' entries
-pub one_session_settings : OneOutcome session_settings.Post (λ e. columns (book_at e.1.1) (first e.1.1.1))
+pub one_session_settings : OneCall session_settings.Post left (λ e. columns (book_at e.1.1) (first e.1.1.1))
 one_session_settings κs a z z' e e' p q =
     let one = same p.0 q.0 in
-    (called_one one, ap (λ (c : Called). columns c.market.book (c.market.entries ∷ [])) one)
+    let (answer, session) = called_one one in
+    (answer, session, ap (λ (c : Called). columns c.market.book (c.market.entries ∷ [])) one)
 
-pub one_session_submit : OneOutcome session_submit.Post (λ e. first e.1.1.1.1)
+pub one_session_submit : OneCall session_submit.Post left (λ e. first e.1.1.1.1)
 one_session_submit κs a z z' e e' p q =
     let one = same (p.0 no_book) (q.0 no_book) in
-    (called_one one, ap (λ (c : Called). c.market.entries ∷ []) one)
+    let (answer, session) = called_one one in
+    (answer, session, ap (λ (c : Called). c.market.entries ∷ []) one)
 
 -- the columns of the book and the fill records
-pub one_session_turn : OneOutcome session_turn.Post (λ e. columns (book_at e.1) (first e.1.1.1.1))
+pub one_session_turn : OneCall session_turn.Post left (λ e. columns (book_at e.1) (first e.1.1.1.1))
 one_session_turn κs a z z' e e' p q =
     let one = same p.0 q.0 in
-    (turned_one one, ap (λ (d : TurnDone). columns d.market.book (d.records ∷ [])) one)
+    let (answer, session) = turned_one one in
+    (answer, session, ap (λ (d : TurnDone). columns d.market.book (d.records ∷ [])) one)
 
--- the columns of the book and the fill records
-pub one_session_open : OneOutcome session_open.Post (λ e. columns (book_at e.1) (first e.1.1.1))
+pub one_session_open : OneCall session_open.Post left (λ e. columns (book_at e.1) (first e.1.1.1))
 one_session_open κs a z z' e e' p q =
     let one = same (p.0 []) (q.0 []) in
-    (opened_one one, ap (λ (d : OpenDone). columns d.market.book (d.records ∷ [])) one)
+    let (answer, session) = opened_one one in
+    (answer, session, ap (λ (d : OpenDone). columns d.market.book (d.records ∷ [])) one)
 
 pub one_session_tally_of : OneResult session_tally_of.Post
 one_session_tally_of κs a z z' e e' p q = tallied_one z z' (same p q)
@@ -704,56 +709,56 @@ abbrev pub OpenAs : Session → Book → List Fill → Opened → Book → List 
 OpenAs s found row r b left = (entries : List ℕ) → open_stored r b entries left ≡ open_with (market_of s found entries) row
 
 pub fills_turn_promise : {M : Type 1} {𝓤 : Ura.Ura M} (𝓛 : Logic 𝓤) (mem : Memory.Memory → Logic.SProp 𝓤) (run : Routine.Routine → Monad.Fun 𝓤)
-    (κs : Lifetimes.Lfts 3) (a : World.ArgsD fills_turn.signature κs) (z : World.ResD fills_turn.signature κs) (e : Clauses.AtExit fills_turn.ended κs)
+    (κs : Lifetimes.Lfts 4) (a : World.ArgsD fills_turn.signature κs) (z : World.ResD fills_turn.signature κs) (e : Clauses.AtExit fills_turn.ended κs)
     → (fills_turn.clauses 𝓛 mem run κs a).ensures tt z e
     ≡ (Notation.connectives 𝓤).◌∗◌
     ((Notation.connectives 𝓤).⌜◌⌝ (
-    TurnAs (market_of a.0 (book_at a.1) a.1.1.0.now) a.1.1.1.0.now
-    z (book_at e.1) a.1.1.0.now e.1.1.1.0.now))
+    TurnAs (market_of a.0.now (book_at a.1) a.1.1.0.now) a.1.1.1.0.now
+    (record { session = e.0.now; answer = z }) (book_at e.1) a.1.1.0.now e.1.1.1.0.now))
     ((Notation.connectives 𝓤).◌∗◌
-    ((Notation.connectives 𝓤).⌜◌⌝ (Sound (market_of z.session (book_at e.1) a.1.1.0.now)))
+    ((Notation.connectives 𝓤).⌜◌⌝ (Sound (market_of e.0.now (book_at e.1) a.1.1.0.now)))
     ((Notation.connectives 𝓤).⌜◌⌝ (
-    printed (turn_answer_of z.answer)
-    ≡ printed (turn_with (market_of a.0 (book_at a.1) a.1.1.0.now) a.1.1.1.0.now).answer)))
+    printed (turn_answer_of z)
+    ≡ printed (turn_with (market_of a.0.now (book_at a.1) a.1.1.0.now) a.1.1.1.0.now).answer)))
 fills_turn_promise 𝓛 mem run κs a z e = refl
 
 pub fills_open_promise : {M : Type 1} {𝓤 : Ura.Ura M} (𝓛 : Logic 𝓤) (mem : Memory.Memory → Logic.SProp 𝓤) (run : Routine.Routine → Monad.Fun 𝓤)
-    (κs : Lifetimes.Lfts 2) (a : World.ArgsD fills_open.signature κs) (z : World.ResD fills_open.signature κs) (e : Clauses.AtExit fills_open.ended κs)
+    (κs : Lifetimes.Lfts 3) (a : World.ArgsD fills_open.signature κs) (z : World.ResD fills_open.signature κs) (e : Clauses.AtExit fills_open.ended κs)
     → (fills_open.clauses 𝓛 mem run κs a).ensures tt z e
     ≡ (Notation.connectives 𝓤).◌∗◌
-    ((Notation.connectives 𝓤).⌜◌⌝ (OpenAs a.0 (book_at a.1) a.1.1.0.now z (book_at e.1) e.1.1.0.now))
+    ((Notation.connectives 𝓤).⌜◌⌝ (OpenAs a.0.now (book_at a.1) a.1.1.0.now (record { session = e.0.now; answer = z }) (book_at e.1) e.1.1.0.now))
     ((Notation.connectives 𝓤).◌∗◌
     ((Notation.connectives 𝓤).⌜◌⌝ (
-    (entries : List ℕ) → Sound (market_of a.0 (book_at a.1) entries) → Sound (market_of z.session (book_at e.1) entries)))
+    (entries : List ℕ) → Sound (market_of a.0.now (book_at a.1) entries) → Sound (market_of e.0.now (book_at e.1) entries)))
     ((Notation.connectives 𝓤).⌜◌⌝ (
-    (entries : List ℕ) → printed_open (open_answer_of z.answer)
-    ≡ printed_open (open_with (market_of a.0 (book_at a.1) entries) a.1.1.0.now).answer)))
+    (entries : List ℕ) → printed_open (open_answer_of z)
+    ≡ printed_open (open_with (market_of a.0.now (book_at a.1) entries) a.1.1.0.now).answer)))
 fills_open_promise 𝓛 mem run κs a z e = refl
 
 -- with a row of the call's own, which is empty
 pub fills_turn_on_row_promise : {M : Type 1} {𝓤 : Ura.Ura M} (𝓛 : Logic 𝓤) (mem : Memory.Memory → Logic.SProp 𝓤) (run : Routine.Routine → Monad.Fun 𝓤)
-    (κs : Lifetimes.Lfts 2) (a : World.ArgsD fills_turn_on_row.signature κs) (z : World.ResD fills_turn_on_row.signature κs) (e : Clauses.AtExit fills_turn_on_row.ended κs)
+    (κs : Lifetimes.Lfts 3) (a : World.ArgsD fills_turn_on_row.signature κs) (z : World.ResD fills_turn_on_row.signature κs) (e : Clauses.AtExit fills_turn_on_row.ended κs)
     → (fills_turn_on_row.clauses 𝓛 mem run κs a).ensures tt z e
     ≡ (Notation.connectives 𝓤).◌∗◌
     ((Notation.connectives 𝓤).⌜◌⌝ (
-    TurnAs (market_of a.0 (book_at a.1) a.1.1.0.now) empty_row z.returned (book_at e.1) a.1.1.0.now z.row))
+    TurnAs (market_of a.0.now (book_at a.1) a.1.1.0.now) empty_row (record { session = e.0.now; answer = z.returned }) (book_at e.1) a.1.1.0.now z.row))
     ((Notation.connectives 𝓤).◌∗◌
-    ((Notation.connectives 𝓤).⌜◌⌝ (Sound (market_of z.returned.session (book_at e.1) a.1.1.0.now)))
+    ((Notation.connectives 𝓤).⌜◌⌝ (Sound (market_of e.0.now (book_at e.1) a.1.1.0.now)))
     ((Notation.connectives 𝓤).⌜◌⌝ (
-    printed (turn_answer_of z.returned.answer)
-    ≡ printed (turn_with (market_of a.0 (book_at a.1) a.1.1.0.now) empty_row).answer)))
+    printed (turn_answer_of z.returned)
+    ≡ printed (turn_with (market_of a.0.now (book_at a.1) a.1.1.0.now) empty_row).answer)))
 fills_turn_on_row_promise 𝓛 mem run κs a z e = refl
 
 pub fills_open_on_row_promise : {M : Type 1} {𝓤 : Ura.Ura M} (𝓛 : Logic 𝓤) (mem : Memory.Memory → Logic.SProp 𝓤) (run : Routine.Routine → Monad.Fun 𝓤)
-    (κs : Lifetimes.Lfts 1) (a : World.ArgsD fills_open_on_row.signature κs) (z : World.ResD fills_open_on_row.signature κs) (e : Clauses.AtExit fills_open_on_row.ended κs)
+    (κs : Lifetimes.Lfts 2) (a : World.ArgsD fills_open_on_row.signature κs) (z : World.ResD fills_open_on_row.signature κs) (e : Clauses.AtExit fills_open_on_row.ended κs)
     → (fills_open_on_row.clauses 𝓛 mem run κs a).ensures tt z e
     ≡ (Notation.connectives 𝓤).◌∗◌
-    ((Notation.connectives 𝓤).⌜◌⌝ (OpenAs a.0 (book_at a.1) empty_row z.returned (book_at e.1) z.row))
+    ((Notation.connectives 𝓤).⌜◌⌝ (OpenAs a.0.now (book_at a.1) empty_row (record { session = e.0.now; answer = z.returned }) (book_at e.1) z.row))
     ((Notation.connectives 𝓤).◌∗◌
     ((Notation.connectives 𝓤).⌜◌⌝ (
-    (entries : List ℕ) → Sound (market_of a.0 (book_at a.1) entries) → Sound (market_of z.returned.session (book_at e.1) entries)))
+    (entries : List ℕ) → Sound (market_of a.0.now (book_at a.1) entries) → Sound (market_of e.0.now (book_at e.1) entries)))
     ((Notation.connectives 𝓤).⌜◌⌝ (
-    (entries : List ℕ) → printed_open (open_answer_of z.returned.answer) ≡ printed_open (open_with (market_of a.0 (book_at a.1) entries) empty_row).answer)))
+    (entries : List ℕ) → printed_open (open_answer_of z.returned) ≡ printed_open (open_with (market_of a.0.now (book_at a.1) entries) empty_row).answer)))
 fills_open_on_row_promise 𝓛 mem run κs a z e = refl
 
 -- each of these equations is met by one outcome
@@ -780,31 +785,33 @@ one_fills_open s found row r r' b b' left left' p q =
     (λ i. record { session = session i; answer = answer i }, book, fills)
 
 pub one_fills_turn_on_row :
-    (m : Market) (r r' : OnRow Turned) (b b' : Book) (entries entries' : List ℕ) →
-    TurnAs m empty_row r.returned b entries r.row → TurnAs m empty_row r'.returned b' entries' r'.row →
-    (r ≡ r') × (b ≡ b') × (entries ≡ entries')
-one_fills_turn_on_row m r r' b b' entries entries' p q =
-    let (turned, book, waiting, row) = one_fills_turn m empty_row r.returned r'.returned b b' entries entries' r.row r'.row p q in
-    (λ i. record { returned = turned i; row = row i }, book, waiting)
+    (m : Market) (s s' : Session) (r r' : OnRow (Result Taken Refusal)) (b b' : Book) (entries entries' : List ℕ) →
+    TurnAs m empty_row (record { session = s; answer = r.returned }) b entries r.row →
+    TurnAs m empty_row (record { session = s'; answer = r'.returned }) b' entries' r'.row →
+    (s ≡ s') × (r ≡ r') × (b ≡ b') × (entries ≡ entries')
+one_fills_turn_on_row m s s' r r' b b' entries entries' p q =
+    let (turned, book, waiting, row) = one_fills_turn m empty_row (record { session = s; answer = r.returned }) (record { session = s'; answer = r'.returned }) b b' entries entries' r.row r'.row p q in
+    (λ i. (turned i).session, λ i. record { returned = (turned i).answer; row = row i }, book, waiting)
 
 pub one_fills_open_on_row :
-    (s : Session) (found : Book) (r r' : OnRow Opened) (b b' : Book) →
-    OpenAs s found empty_row r.returned b r.row → OpenAs s found empty_row r'.returned b' r'.row →
-    (r ≡ r') × (b ≡ b')
-one_fills_open_on_row s found r r' b b' p q =
-    let (opened, book, row) = one_fills_open s found empty_row r.returned r'.returned b b' r.row r'.row p q in
-    (λ i. record { returned = opened i; row = row i }, book)
+    (s : Session) (found : Book) (t t' : Session) (r r' : OnRow (Result Opening Refusal)) (b b' : Book) →
+    OpenAs s found empty_row (record { session = t; answer = r.returned }) b r.row →
+    OpenAs s found empty_row (record { session = t'; answer = r'.returned }) b' r'.row →
+    (t ≡ t') × (r ≡ r') × (b ≡ b')
+one_fills_open_on_row s found t t' r r' b b' p q =
+    let (opened, book, row) = one_fills_open s found empty_row (record { session = t; answer = r.returned }) (record { session = t'; answer = r'.returned }) b b' r.row r'.row p q in
+    (λ i. (opened i).session, λ i. record { returned = (opened i).answer; row = row i }, book)
 
 -- ---- replay
 
-pub one_replay_event : OneOutcome replay_event.Post (λ e. market_lent e.1.1.1)
+pub one_replay_event : OneCall replay_event.Post left (λ e. market_lent e.1.1.1)
 one_replay_event κs a z z' e e' p q =
     let m = same p.market q.market in
     let at = same p.laid.end q.laid.end in
     let out = same p.laid.stored q.laid.stored in
-    (λ i. record { session = (m i).session; at = at i }, λ i. columns (m i).book ((m i).entries ∷ out i ∷ []))
+    (at, λ i. (m i).session, λ i. columns (m i).book ((m i).entries ∷ out i ∷ []))
 
-pub one_replay_step : OneOutcome replay_step.Post (λ e. e.1.1.1.1.0.now ∷ market_lent e.1.1.1.1.1)
+pub one_replay_step : OneCall replay_step.Post left (λ e. e.1.1.1.1.0.now ∷ market_lent e.1.1.1.1.1)
 one_replay_step κs a z z' e e' p q =
     let m = same p.market q.market in
     let at = same p.laid.end q.laid.end in
@@ -812,7 +819,7 @@ one_replay_step κs a z z' e e' p q =
     let ending = status_one z.ending z'.ending (same p.status q.status) in
     let given = same p.given_is q.given_is in
     let out = same p.laid.stored q.laid.stored in
-    (λ i. record { session = (m i).session; at = at i; from = from i; ending = ending i }, λ i. given i ∷ columns (m i).book ((m i).entries ∷ out i ∷ []))
+    (λ i. record { at = at i; from = from i; ending = ending i }, λ i. (m i).session, λ i. given i ∷ columns (m i).book ((m i).entries ∷ out i ∷ []))
 
 pub one_replay_tally_lines : OneOutcome replay_tally_lines.Post (λ e. first e.1)
 one_replay_tally_lines κs a z z' e e' = laid
@@ -838,7 +845,7 @@ one_window_tell_line κs a z z' e e' p q = refl
 
 -- ---- playing
 
-pub one_playing_play : OneOutcome playing_play.Post (λ e. e.1.1.1.1.1.0.now ∷ market_lent e.1.1.1.1.1.1)
+pub one_playing_play : OneCall playing_play.Post left (λ e. e.1.1.1.1.1.0.now ∷ market_lent e.1.1.1.1.1.1)
 one_playing_play κs a z z' e e' p q =
     let m = same p.market q.market in
     let at = same p.laid.end q.laid.end in
@@ -846,7 +853,7 @@ one_playing_play κs a z z' e e' p q =
     let next = next_one z.next z'.next (same p.next q.next) in
     let given = same p.given_is q.given_is in
     let out = same p.laid.stored q.laid.stored in
-    (λ i. record { session = (m i).session; at = at i; from = from i; next = next i }, λ i. given i ∷ columns (m i).book ((m i).entries ∷ out i ∷ []))
+    (λ i. record { at = at i; from = from i; next = next i }, λ i. (m i).session, λ i. given i ∷ columns (m i).book ((m i).entries ∷ out i ∷ []))
 
 -- ---- numbers of refusals and of what becomes of orders
 

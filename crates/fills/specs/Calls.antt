@@ -1,14 +1,18 @@
 -- The calls turn and open with a row of fills lent.
-use Rattle.std.specs.Prelude.{ℕ, ◌*◌, List, length, replicate}
+use Rattle.std.specs.Prelude.{ℕ, ◌*◌, List, length, replicate, Result}
 use Rattle.units.specs.Units.{tenants, cents, contracts}
 use Rattle.rows.specs.Rows.{rows}
 use Rattle.book.specs.declared.Fill.{Fill}
 use Rattle.book.specs.Book.{Book}
 use Rattle.book.specs.Records.{fields}
 use Rattle.book.specs.Fills.{stored}
-use Rattle.session.specs.declared.Turned.{Turned}
+use Rattle.entry.specs.declared.refusal.Refusal.{Refusal}
+use Rattle.session.specs.declared.Opening.{Opening}
+use Rattle.session.specs.declared.Session.{Session}
+use Rattle.session.specs.declared.Taken.{Taken}
+use Rattle.session.specs.Left.{Turned}
 use Rattle.session.specs.TurnAnswer.{TurnAnswer, turn_answer_of}
-use Rattle.session.specs.declared.Opened.{Opened}
+use Rattle.session.specs.Left.{Opened}
 use Rattle.session.specs.OpenAnswer.{OpenAnswer, open_answer_of}
 use Rattle.session.specs.Market.{Market, Done, market_of}
 use Rattle.session.specs.Turn.{turn_of, fills_in}
@@ -26,6 +30,13 @@ turn_stored r book entries fills = record { market = market_of r.session book en
 
 abbrev pub open_stored : Opened → Book → List ℕ → List Fill → Stored OpenAnswer
 open_stored r book entries fills = record { market = market_of r.session book entries; answer = open_answer_of r.answer; fills = fills }
+
+-- the same of the session that it left and its answer
+abbrev pub turn_kept : Session → Result Taken Refusal → Book → List ℕ → List Fill → Stored TurnAnswer
+turn_kept s answer book entries fills = turn_stored (record { session = s; answer = answer }) book entries fills
+
+abbrev pub open_kept : Session → Result Opening Refusal → Book → List ℕ → List Fill → Stored OpenAnswer
+open_kept s answer book entries fills = open_stored (record { session = s; answer = answer }) book entries fills
 
 -- the records that a call wrote, as fills at the start of the row; the answer tells how many
 abbrev pub in_row : {A : Type 0} → (A → ℕ) → Done A → List Fill → Stored A

@@ -13,14 +13,13 @@ ghost use Rattle.session.specs.OpenAnswer.{open_answer_of};
 ghost use Rattle.session.specs.Sound.{Sound, BookSound};
 ghost use Rattle.session.specs.Turn.{printed, fills_in};
 ghost use Rattle.session.specs.Open.{printed as printed_open, fills_in as fills_opened};
-ghost use Rattle.fills.specs.Calls.{turn_stored, turn_with, open_stored, open_with};
+ghost use Rattle.fills.specs.Calls.{turn_kept, turn_with, open_kept, open_with};
 
 use book::records::FIELDS;
 use book::{Book, Fill, Records};
+use entry::refusal::Refusal;
 use lanes::Entries;
-use session::open::open_core;
-use session::turn::turn_core;
-use session::{Opened, Session, Taken, Turned};
+use session::{Opening, Session, Taken};
 use units::{Cents, Contracts};
 
 // What the flat records begin with. Any number does, since only what is written is stored; with 0 the compiler would
@@ -42,20 +41,20 @@ fn record_at(records: &Records, i: usize) -> Fill
 }
 
 // How many fills a turn wrote.
-pub fn turn_fills(t: Turned) -> usize
-    ensures { result ≡ fills_in (turn_answer_of t.answer) }
+pub fn turn_fills(answer: Result<Taken, Refusal>) -> usize
+    ensures { result ≡ fills_in (turn_answer_of answer) }
 {
-    match t.answer {
+    match answer {
         Ok(Taken::Accepted(_, _, _, _, fills)) => fills,
         _ => 0,
     }
 }
 
 // How many fills an opening wrote.
-fn open_fills(o: Opened) -> usize
-    ensures { result ≡ fills_opened (open_answer_of o.answer) }
+fn open_fills(answer: Result<Opening, Refusal>) -> usize
+    ensures { result ≡ fills_opened (open_answer_of answer) }
 {
-    match o.answer {
+    match answer {
         Ok(opening) => opening.fills,
         Err(_) => 0,
     }
@@ -72,34 +71,37 @@ fn store_all(fills: &mut [Fill], records: &Records, count: usize)
 }
 
 // The call turn.
-pub fn turn(s: Session, book: &mut Book, entries: &Entries, fills: &mut [Fill]) -> Turned
-    requires { Sound (market_in s book.old entries.now) }
-    ensures exact { turn_stored result (book_in book.new) entries.now fills.new
-        ≡ turn_with (market_in s book.old entries.now) fills.old }
-    ensures sound { Sound (market_in result.session book.new entries.now) }
-    ensures values { printed (turn_answer_of result.answer)
-        ≡ printed (turn_with (market_in s book.old entries.now) fills.old).answer }
+pub fn turn(
+    s: &mut Session,
+    book: &mut Book,
+    entries: &Entries,
+    fills: &mut [Fill],
+) -> Result<Taken, Refusal>
+    requires { Sound (market_in s.old book.old entries.now) }
+    ensures exact { turn_kept s.new result (book_in book.new) entries.now fills.new
+        ≡ turn_with (market_in s.old book.old entries.now) fills.old }
+    ensures sound { Sound (market_in s.new book.new entries.now) }
+    ensures values { printed (turn_answer_of result)
+        ≡ printed (turn_with (market_in s.old book.old entries.now) fills.old).answer }
 {
     let mut records = [UNWRITTEN; 864];
-    let turned = turn_core(s, book, entries, fills.len(), &mut records);
-    let count = turn_fills(turned);
-    store_all(fills, &records, count);
-    turned
+    let answer = s.turn_core(book, entries, fills.len(), &mut records);
+    store_all(fills, &records, turn_fills(answer));
+    answer
 }
 
 // The call open.
-pub fn open(s: Session, book: &mut Book, fills: &mut [Fill]) -> Opened
-    requires { BookSound s (book_in book.old) }
-    ensures exact { (entries : List ℕ) → open_stored result (book_in book.new) entries fills.new
-        ≡ open_with (market_in s book.old entries) fills.old }
-    ensures sound { (entries : List ℕ) → Sound (market_in s book.old entries)
-        → Sound (market_in result.session book.new entries) }
-    ensures values { (entries : List ℕ) → printed_open (open_answer_of result.answer)
-        ≡ printed_open (open_with (market_in s book.old entries) fills.old).answer }
+pub fn open(s: &mut Session, book: &mut Book, fills: &mut [Fill]) -> Result<Opening, Refusal>
+    requires { BookSound s.old (book_in book.old) }
+    ensures exact { (entries : List ℕ) → open_kept s.new result (book_in book.new) entries fills.new
+        ≡ open_with (market_in s.old book.old entries) fills.old }
+    ensures sound { (entries : List ℕ) → Sound (market_in s.old book.old entries)
+        → Sound (market_in s.new book.new entries) }
+    ensures values { (entries : List ℕ) → printed_open (open_answer_of result)
+        ≡ printed_open (open_with (market_in s.old book.old entries) fills.old).answer }
 {
     let mut records = [UNWRITTEN; 864];
-    let opened = open_core(s, book, fills.len(), &mut records);
-    let count = open_fills(opened);
-    store_all(fills, &records, count);
-    opened
+    let answer = s.open_core(book, fills.len(), &mut records);
+    store_all(fills, &records, open_fills(answer));
+    answer
 }

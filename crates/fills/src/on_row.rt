@@ -7,12 +7,13 @@ ghost use Rattle.session.specs.OpenAnswer.{open_answer_of};
 ghost use Rattle.session.specs.Sound.{Sound, BookSound};
 ghost use Rattle.session.specs.Turn.{printed};
 ghost use Rattle.session.specs.Open.{printed as printed_open};
-ghost use Rattle.fills.specs.Calls.{empty_row, turn_stored, turn_with, open_stored, open_with};
+ghost use Rattle.fills.specs.Calls.{empty_row, turn_kept, turn_with, open_kept, open_with};
 
 use crate::{open, turn};
 use book::{Book, Fill};
+use entry::refusal::Refusal;
 use lanes::Entries;
-use session::{Opened, Session, Turned};
+use session::{Opening, Session, Taken};
 use units::{Cents, Contracts};
 
 // What a call returned, and the row of fills that it left.
@@ -39,13 +40,17 @@ pub(crate) fn no_fills() -> [Fill; 216]
 }
 
 // A turn, with a row of empty fills.
-pub fn turn_on_row(s: Session, book: &mut Book, entries: &Entries) -> OnRow<Turned>
-    requires { Sound (market_in s book.old entries.now) }
-    ensures exact { turn_stored result.returned (book_in book.new) entries.now result.row
-        ≡ turn_with (market_in s book.old entries.now) empty_row }
-    ensures sound { Sound (market_in result.returned.session book.new entries.now) }
-    ensures values { printed (turn_answer_of result.returned.answer)
-        ≡ printed (turn_with (market_in s book.old entries.now) empty_row).answer }
+pub fn turn_on_row(
+    s: &mut Session,
+    book: &mut Book,
+    entries: &Entries,
+) -> OnRow<Result<Taken, Refusal>>
+    requires { Sound (market_in s.old book.old entries.now) }
+    ensures exact { turn_kept s.new result.returned (book_in book.new) entries.now result.row
+        ≡ turn_with (market_in s.old book.old entries.now) empty_row }
+    ensures sound { Sound (market_in s.new book.new entries.now) }
+    ensures values { printed (turn_answer_of result.returned)
+        ≡ printed (turn_with (market_in s.old book.old entries.now) empty_row).answer }
 {
     let mut row = no_fills();
     let returned = turn(s, book, entries, &mut row);
@@ -53,14 +58,14 @@ pub fn turn_on_row(s: Session, book: &mut Book, entries: &Entries) -> OnRow<Turn
 }
 
 // An open, with a row of empty fills.
-pub fn open_on_row(s: Session, book: &mut Book) -> OnRow<Opened>
-    requires { BookSound s (book_in book.old) }
-    ensures exact { (entries : List ℕ) → open_stored result.returned (book_in book.new) entries result.row
-        ≡ open_with (market_in s book.old entries) empty_row }
-    ensures sound { (entries : List ℕ) → Sound (market_in s book.old entries)
-        → Sound (market_in result.returned.session book.new entries) }
-    ensures values { (entries : List ℕ) → printed_open (open_answer_of result.returned.answer)
-        ≡ printed_open (open_with (market_in s book.old entries) empty_row).answer }
+pub fn open_on_row(s: &mut Session, book: &mut Book) -> OnRow<Result<Opening, Refusal>>
+    requires { BookSound s.old (book_in book.old) }
+    ensures exact { (entries : List ℕ) → open_kept s.new result.returned (book_in book.new) entries result.row
+        ≡ open_with (market_in s.old book.old entries) empty_row }
+    ensures sound { (entries : List ℕ) → Sound (market_in s.old book.old entries)
+        → Sound (market_in s.new book.new entries) }
+    ensures values { (entries : List ℕ) → printed_open (open_answer_of result.returned)
+        ≡ printed_open (open_with (market_in s.old book.old entries) empty_row).answer }
 {
     let mut row = no_fills();
     let returned = open(s, book, &mut row);

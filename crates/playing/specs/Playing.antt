@@ -3,7 +3,6 @@ use Rattle.std.specs.Prelude.{◌≡◌, Bool, List, [], ◌++◌, ℕ, zero, su
 use Rattle.units.specs.Tests.{pick}
 use Rattle.lines.specs.Laying.{output, Laid}
 use Rattle.tape.specs.Depth.{most_bytes}
-use Rattle.session.specs.declared.Session.{Session}
 use Rattle.session.specs.Market.{Market}
 use Rattle.session.specs.Sound.{Sound}
 use Rattle.replay.specs.Listing.{longest_event}
@@ -56,8 +55,8 @@ unfoldable pub play_of : List ℕ → Bool → ℕ → Market → List ℕ → �
 play_of bytes more base m given from at = play_most bytes more base (suc (length bytes - from)) m given from at
 
 -- what the program is told
-abbrev pub leaving : Session → ℕ → ℕ → comes.Next → code.Played
-leaving s at from next = record { session = s; at = at; from = from; next = next }
+abbrev pub leaving : ℕ → ℕ → comes.Next → code.Played
+leaving at from next = record { at = at; from = from; next = next }
 
 -- what playing asks: a sound market, places that fit, and the output that the lines ask
 pub record CanPlay (m : Market) (bytes : List ℕ) (base from : ℕ) (out : List ℕ) (start : ℕ) : Type 0 where

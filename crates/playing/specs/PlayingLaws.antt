@@ -12,7 +12,6 @@ use Rattle.lines.specs.Laying.{output, Laid, laid_then, nothing_laid}
 use Rattle.tape.specs.Tape.{Reading, event_at, entries_after}
 use Rattle.tape.specs.Depth.{most_bytes}
 use Rattle.tape.specs.TapeLaws.{place}
-use Rattle.session.specs.declared.Session.{Session}
 use Rattle.session.specs.Market.{Market}
 use Rattle.replay.specs.Listing.{longest_event}
 use Rattle.replay.specs.declared.stepping.Ending.{Ending}
@@ -129,8 +128,8 @@ module _ (bytes : List ℕ) (more : Bool) (base : ℕ) where
         go (suc n) h e = (n, omega arith, e ∙ ap (printing p.printed) (is n))
 
     -- no event more is run
-    waits : (s : Session) (next : comes.Next) → whole ≡ printing p.printed (first (next_of next) m given from) → PlaysTo whole bytes was start (leaving s at from next) m given out
-    waits s next e = rw e record {
+    waits : (next : comes.Next) → whole ≡ printing p.printed (first (next_of next) m given from) → PlaysTo whole bytes was start (leaving at from next) m given out
+    waits next e = rw e record {
       market = refl;
       given_is = refl;
       laid = rw (append-nil p.printed) p.laid;
@@ -141,20 +140,20 @@ module _ (bytes : List ℕ) (more : Bool) (base : ℕ) where
     }
 
     pub playing_reads :
-        (s : Session) {short : Bool} → short ≡ is_short from (length bytes) more most_bytes → short ≡ true →
-        PlaysTo whole bytes was start (leaving s at from comes_next.Read) m given out
+        {short : Bool} → short ≡ is_short from (length bytes) more most_bytes → short ≡ true →
+        PlaysTo whole bytes was start (leaving at from comes_next.Read) m given out
     unfolding play_most pick
-    playing_reads s is so = waits s comes_next.Read (unfolds (λ n. first next.Read m given from) (λ n. rw (sym is ∙ so))).2
+    playing_reads is so = waits comes_next.Read (unfolds (λ n. first next.Read m given from) (λ n. rw (sym is ∙ so))).2
 
     module _ {short : Bool} (is : short ≡ is_short from (length bytes) more most_bytes) (so : short ≡ false) where
       enough_at_hand : is_short from (length bytes) more most_bytes ≡ false
       enough_at_hand = sym is ∙ so
 
       pub playing_writes :
-          (s : Session) → output - at < longest_event →
-          PlaysTo whole bytes was start (leaving s at from comes_next.Write) m given out
+          output - at < longest_event →
+          PlaysTo whole bytes was start (leaving at from comes_next.Write) m given out
       unfolding play_most pick
-      playing_writes s full = waits s comes_next.Write (unfolds (λ n. first next.Write m given from) (λ n. rw (enough_at_hand, lt-ltb (output - at) longest_event full))).2
+      playing_writes full = waits comes_next.Write (unfolds (λ n. first next.Write m given from) (λ n. rw (enough_at_hand, lt-ltb (output - at) longest_event full))).2
 
       module _ (room : longest_event ≤ output - at) where
         pub playing_can : CanReplay m out at
@@ -169,7 +168,7 @@ module _ (bytes : List ℕ) (more : Bool) (base : ℕ) where
 
           pub playing_stops :
               (how : Ending) → r.ending ≡ Some how →
-              PlaysTo whole bytes was start (leaving r.session r.at r.from (comes_next.Stop how)) after numbers next_out
+              PlaysTo whole bytes was start (leaving r.at r.from (comes_next.Stop how)) after numbers next_out
           unfolding play_most pick
           playing_stops how stop =
               let q : Step = step_of m bytes from base given in

@@ -22,20 +22,18 @@ pub enum Next {
     Stop(Ending),
 }
 
-// What playing leaves: the session, the place after what was printed, the place of the next event, and what comes next.
+// What playing leaves beside the market: the place after what was printed, the place of the next event, and what comes next.
 #[derive(Clone, Copy)]
 pub struct Played {
-    pub session: Session,
     pub at: usize,
     pub from: usize,
     pub next: Next,
 }
 
-fn leave(s: Session, at: usize, from: usize, next: Next) -> Played
-    ensures { result ≡ leaving s at from next }
+fn leave(at: usize, from: usize, next: Next) -> Played
+    ensures { result ≡ leaving at from next }
 {
     Played {
-        session: s,
         at: at,
         from: from,
         next: next,
@@ -46,7 +44,7 @@ fn leave(s: Session, at: usize, from: usize, next: Next) -> Played
 // place `base` of the tape: until too few are at hand although the tape may go on, or the output has no room for the
 // longest event, or the tape's last line is printed.
 pub fn play(
-    s: Session,
+    s: &mut Session,
     bytes: &[u8],
     more: bool,
     base: u64,
@@ -57,28 +55,26 @@ pub fn play(
     out: &mut Output,
     at: usize,
 ) -> Played
-    requires { CanPlay (market_in s book.old entries.old) bytes.now base from out.old at }
+    requires { CanPlay (market_in s.old book.old entries.old) bytes.now base from out.old at }
     ensures { PlaysTo
-        (play_of bytes.now more base (market_in s book.old entries.old) given.old from at)
+        (play_of bytes.now more base (market_in s.old book.old entries.old) given.old from at)
         bytes.now out.old at result
-        (market_in result.session book.new entries.new) given.new out.new }
+        (market_in s.new book.new entries.new) given.new out.new }
 {
-    let mut s = s;
     let mut from = from;
     let mut at = at;
     loop {
         if is_short(from, bytes.len(), more, MOST_BYTES) {
-            return leave(s, at, from, Next::Read);
+            return leave(at, from, Next::Read);
         }
         if OUTPUT - at < LONGEST_EVENT {
-            return leave(s, at, from, Next::Write);
+            return leave(at, from, Next::Write);
         }
         let done = step(s, bytes, from, base, given, book, entries, out, at);
-        s = done.session;
         from = done.from;
         at = done.at;
         if let Some(how) = done.ending {
-            return leave(s, at, from, Next::Stop(how));
+            return leave(at, from, Next::Stop(how));
         }
     }
 }

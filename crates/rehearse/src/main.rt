@@ -33,7 +33,7 @@ fn tallies_asked(rt: &HostRuntime) -> bool {
 }
 
 // Prints the tallies where they are asked for. The lines before them are written out, so they have the whole output.
-fn print_tallies(rt: &HostRuntime, s: Session, out: &mut Output) -> Status
+fn print_tallies(rt: &HostRuntime, s: &Session, out: &mut Output) -> Status
     requires { length out.old ≡ output }
 {
     if tallies_asked(rt) {
@@ -81,7 +81,7 @@ fn main(rt: HostRuntime) {
     while turns > 0 && status == Status::Going {
         turns -= 1;
         let done = play(
-            s,
+            &mut s,
             &window[..to],
             more,
             base,
@@ -92,7 +92,6 @@ fn main(rt: HostRuntime) {
             &mut out,
             at,
         );
-        s = done.session;
         at = done.at;
         from = done.from;
         match done.next {
@@ -114,7 +113,7 @@ fn main(rt: HostRuntime) {
     }
     if flush(&rt, &out, at) == Status::Going
         && status != Status::Failed
-        && print_tallies(&rt, s, &mut out) == Status::Going
+        && print_tallies(&rt, &s, &mut out) == Status::Going
     {
         tell(status);
     } else {

@@ -18,11 +18,10 @@ pub enum Ending {
     Refused,
 }
 
-// What a step leaves: the session, the place after what was printed, the place of the next event, and how the tape
+// What a step leaves beside the market: the place after what was printed, the place of the next event, and how the tape
 // ended, or none where it goes on.
 #[derive(Clone, Copy)]
 pub struct Reached {
-    pub session: Session,
     pub at: usize,
     pub from: usize,
     pub ending: Option<Ending>,
@@ -31,7 +30,7 @@ pub struct Reached {
 // The event at the place `from` of the tape's bytes that are at hand, of which the first stands at the place `base` of
 // the tape.
 pub fn step(
-    s: Session,
+    s: &mut Session,
     bytes: &[u8],
     from: usize,
     base: u64,
@@ -41,31 +40,28 @@ pub fn step(
     out: &mut Output,
     at: usize,
 ) -> Reached
-    requires can_replay { CanReplay (market_in s book.old entries.old) out.old at }
+    requires can_replay { CanReplay (market_in s.old book.old entries.old) out.old at }
     requires bytes_bound { base + length bytes.now < 18446744073709551616 }
     ensures { StepsTo
-        (step_of (market_in s book.old entries.old) bytes.now from base given.old)
+        (step_of (market_in s.old book.old entries.old) bytes.now from base given.old)
         bytes.now from out.old at result
-        (market_in result.session book.new entries.new) given.new out.new }
+        (market_in s.new book.new entries.new) given.new out.new }
 {
     match tape::events::event(bytes, from, given) {
         Ok(Some((e, end))) => {
-            let done = event(s, e, given, book, entries, out, at);
+            let printed = event(s, e, given, book, entries, out, at);
             Reached {
-                session: done.session,
-                at: done.at,
+                at: printed,
                 from: end,
                 ending: None,
             }
         }
         Ok(None) => Reached {
-            session: s,
             at: end_line(out, at),
             from,
             ending: Some(Ending::Ended),
         },
         Err(r) => Reached {
-            session: s,
             at: tape_line(out, at, r.why.number(), base + r.place as u64),
             from,
             ending: Some(Ending::Refused),

@@ -3,6 +3,7 @@
 pub mod TurnAnswer
 pub mod OpenAnswer
 pub mod Tallied
+pub mod Left
 pub mod Market
 pub mod Sound
 pub mod Settings

@@ -1,17 +1,18 @@
 -- A market: a session with the columns of its book and its lanes' entries; its parts, and the words by which contracts
 -- name it. Calls, and the numbers they answer.
-use Rattle.std.specs.Prelude.{Bool, List, ℕ}
+use Rattle.std.specs.Prelude.{Bool, Result, List, ℕ}
 use Rattle.units.specs.declared.Cents.{Cents}
 use Rattle.book.specs.Book.{Book}
 use Rattle.book.specs.Lent.{book_in}
 use Rattle.book.specs.declared.Book.{Book as Columns}
 use Rattle.entry.specs.declared.Away.{Away}
+use Rattle.entry.specs.declared.refusal.Refusal.{Refusal}
 use Rattle.entry.specs.Refusals.{code_of}
 use Rattle.lanes.specs.declared.Lanes.{Lanes}
 use Rattle.tally.specs.declared.Tally.{Tally}
 use Rattle.dealing.specs.declared.Series.{Series}
 use Rattle.dealing.specs.Floor.{Floor, floor_of}
-use Rattle.session.specs.declared.Answered.{Answered}
+use Rattle.session.specs.Left.{Answered}
 use Rattle.session.specs.declared.Session.{Session}
 
 pub record Market : Type 0 where
@@ -77,3 +78,7 @@ floor_on s b = floor_of (series_of s) s.tallies s.next b
 -- what a call answered, beside the book and the entries that it left
 abbrev pub answered_of : Answered → Book → List ℕ → Called
 answered_of r book entries = record { market = market_of r.session book entries; code = code_of r.answer }
+
+-- the same of the session that it left and its answer
+abbrev pub called : Session → Result Unit Refusal → Book → List ℕ → Called
+called s answer book entries = answered_of (record { session = s; answer = answer }) book entries

@@ -1,5 +1,5 @@
 -- The call open.
-use Rattle.std.specs.Prelude.{Option, true, List, ℕ, ltb}
+use Rattle.std.specs.Prelude.{Option, true, List, ℕ, ltb, Result}
 use Rattle.units.specs.declared.Cents.{Cents}
 use Rattle.units.specs.Units.{cents, contracts}
 use Rattle.units.specs.Tests.{pick}
@@ -12,7 +12,9 @@ use Rattle.tally.specs.declared.Tally.{Tally}
 use Rattle.dealing.specs.Open.{tallies_opened, sources_in, choice_in, way_cases, way_refusal}
 use Rattle.session.specs.OpenAnswer.{OpenAnswer, open_answer_of}
 use Rattle.session.specs.OpenAnswer as answer
-use Rattle.session.specs.declared.Opened.{Opened}
+use Rattle.entry.specs.declared.refusal.Refusal.{Refusal}
+use Rattle.session.specs.declared.Opening.{Opening}
+use Rattle.session.specs.Left.{Opened}
 use Rattle.session.specs.declared.Session.{Session}
 use Rattle.dealing.specs.Way.{Way}
 use Rattle.dealing.specs.Way.{Refused, Quiet, At}
@@ -24,6 +26,10 @@ OpenDone = Done OpenAnswer
 -- what an open answered, beside the book, the entries and the fill records that it left
 abbrev pub open_done : Opened → Book → List ℕ → List ℕ → OpenDone
 open_done r book entries records = record { market = market_of r.session book entries; answer = open_answer_of r.answer; records = records }
+
+-- the same of the session that it left and its answer
+abbrev pub open_called : Session → Result Opening Refusal → Book → List ℕ → List ℕ → OpenDone
+open_called s answer book entries records = open_done (record { session = s; answer = answer }) book entries records
 
 -- the paper's values of an open
 pub record Line : Type 0 where

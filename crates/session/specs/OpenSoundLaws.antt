@@ -11,7 +11,7 @@ use Rattle.price.specs.Price.{chosen}
 use Rattle.tally.specs.declared.Tally.{Tally}
 use Rattle.session.specs.OpenAnswer.{open_answer_of}
 use Rattle.session.specs.OpenAnswer as answer
-use Rattle.session.specs.declared.Opened.{Opened}
+use Rattle.session.specs.Left.{Opened}
 use Rattle.session.specs.declared.Session.{Session}
 use Rattle.session.specs.Market.{Market, market_of}
 use Rattle.dealing.specs.OpenLaws.{opened_sums}

@@ -26,7 +26,7 @@ use Rattle.lanes.specs.Ring.{all_entries, empty}
 use Rattle.lanes.specs.Marks.{empty_len, empty_marked}
 use Rattle.tally.specs.Tallies as tallies
 use Rattle.tally.specs.TallyLaws.{in_all_none}
-use Rattle.session.specs.declared.Answered.{Answered}
+use Rattle.session.specs.Left.{Answered}
 use Rattle.session.specs.declared.Session.{Session}
 use Rattle.session.specs.Market.{Market, Called, market_of, answered_of, with_away, floor_on}
 use Rattle.session.specs.Settings.{started_on, no_terms, new_session, reset_on, on_grid_of, settings_of, too_high, away_cases, away_refusal, away_of}

@@ -24,7 +24,7 @@ use Rattle.dealing.specs.Open.{unset}
 use Rattle.session.specs.declared.Session.{Session}
 use Rattle.session.specs.declared.Taken.{Taken}
 use Rattle.session.specs.declared.Taken.TheVariants as taken
-use Rattle.session.specs.declared.Turned.{Turned}
+use Rattle.session.specs.Left.{Turned}
 use Rattle.session.specs.TurnAnswer.{TurnAnswer, turn_answer_of}
 use Rattle.session.specs.TurnAnswer as answer
 use Rattle.session.specs.Market.{Market, Done, market_of, with_lanes, with_next, with_tallies, floor_on}
@@ -35,6 +35,10 @@ TurnDone = Done TurnAnswer
 -- what a turn answered, beside the book, the entries and the fill records that it left
 abbrev pub turn_done : Turned → Book → List ℕ → List ℕ → TurnDone
 turn_done r book entries records = record { market = market_of r.session book entries; answer = turn_answer_of r.answer; records = records }
+
+-- the same of the session that it left and its answer
+abbrev pub turn_called : Session → Result Taken Refusal → Book → List ℕ → List ℕ → TurnDone
+turn_called s answer book entries records = turn_done (record { session = s; answer = answer }) book entries records
 
 -- the paper's values of a taken turn
 pub record Line : Type 0 where

@@ -23,7 +23,7 @@ use Rattle.dealing.specs.declared.Series.{Series}
 use Rattle.dealing.specs.Deal.{dealt}
 use Rattle.dealing.specs.Floor.{Made, floor_of, made_of, next_after}
 use Rattle.session.specs.declared.Session.{Session}
-use Rattle.session.specs.declared.Turned.{Turned}
+use Rattle.session.specs.Left.{Turned}
 use Rattle.session.specs.declared.Taken.{Taken}
 use Rattle.session.specs.TurnAnswer.{turn_answer_of}
 use Rattle.session.specs.TurnAnswer as answer

@@ -60,17 +60,6 @@ fn no_terms() -> Terms
     }
 }
 
-// The parts of the series.
-fn series_of(s: Session) -> Series
-    ensures { result ≡ series_of s }
-{
-    Series {
-        terms: s.terms,
-        away: s.away,
-        opened: s.opened,
-    }
-}
-
 impl Session {
     // No accepted settings yet: all calls but settings answer 21, whatever book and entries are lent.
     pub fn new() -> Session
@@ -79,13 +68,17 @@ impl Session {
     {
         started(false, no_terms())
     }
-}
 
-// What settings, away and submit answer: nothing, or why they are refused.
-#[derive(Clone, Copy)]
-pub struct Answered {
-    pub session: Session,
-    pub answer: Result<(), Refusal>,
+    // The parts of the series.
+    fn series(&self) -> Series
+        ensures { result ≡ series_of self.now }
+    {
+        Series {
+            terms: self.terms,
+            away: self.away,
+            opened: self.opened,
+        }
+    }
 }
 
 // What a taken turn of a tenant comes to: its entry is turned down; or cancels the order of a number; or is accepted as
@@ -97,13 +90,6 @@ pub enum Taken {
     Accepted(usize, u32, Contracts, Disposition, usize),
 }
 
-// What a turn answers: what it came to, or why it is refused.
-#[derive(Clone, Copy)]
-pub struct Turned {
-    pub session: Session,
-    pub answer: Result<Taken, Refusal>,
-}
-
 // What an opening comes to: the price and the volume, both 0 where no resting buy was at or above a resting sell, and
 // how many fill records it wrote.
 #[derive(Clone, Copy)]
@@ -111,11 +97,4 @@ pub struct Opening {
     pub price: Cents,
     pub volume: Contracts,
     pub fills: usize,
-}
-
-// What an open answers: what it came to, or why it is refused.
-#[derive(Clone, Copy)]
-pub struct Opened {
-    pub session: Session,
-    pub answer: Result<Opening, Refusal>,
 }

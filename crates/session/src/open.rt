@@ -4,58 +4,53 @@ ghost use Rattle.book.specs.Lent.{book_in};
 ghost use Rattle.session.specs.Market.{market_in};
 ghost use Rattle.session.specs.OpenAnswer.{open_answer_of};
 ghost use Rattle.session.specs.Sound.{BookSound, Sound};
-ghost use Rattle.session.specs.Open.{open_done, printed, open_on, open_of};
+ghost use Rattle.session.specs.Open.{open_called, printed, open_on, open_of};
 
-use crate::{Opened, Opening, Session, series_of};
+use crate::{Opening, Session};
 use book::{Book, Records};
 use dealing::open::{open_book, which_way};
+use entry::refusal::Refusal;
 use tally::Tallies;
 use units::{Cents, Contracts};
 
-// The session once open.
-fn open_on(s: Session, tallies: Tallies) -> Session
-    ensures { result ≡ open_on s tallies }
-{
-    Session {
-        opened: true,
-        tallies,
-        ..s
+impl Session {
+    // The session once open.
+    fn open_on(&mut self, tallies: Tallies)
+        ensures { self.new ≡ open_on self.old tallies }
+    {
+        self.opened = true;
+        self.tallies = tallies;
     }
-}
 
-// Opens the series, or refuses.
-pub fn open_core(s: Session, book: &mut Book, lent: usize, records: &mut Records) -> Opened
-    requires { BookSound s (book_in book.old) }
-    ensures exact { (entries : List ℕ) → open_done result (book_in book.new) entries records.new
-        ≡ open_of (market_in s book.old entries) lent records.old }
-    ensures sound { (entries : List ℕ) → Sound (market_in s book.old entries)
-        → Sound (market_in result.session book.new entries) }
-    ensures values { (entries : List ℕ) → printed (open_answer_of result.answer)
-        ≡ printed (open_of (market_in s book.old entries) lent records.old).answer }
-{
-    match which_way(s.accepted, series_of(s), lent, book) {
-        Err(why) => Opened {
-            session: s,
-            answer: Err(why),
-        },
-        Ok(None) => Opened {
-            session: open_on(s, s.tallies),
-            answer: Ok(Opening {
+    // Opens the series, or refuses.
+    pub fn open_core(
+        &mut self,
+        book: &mut Book,
+        lent: usize,
+        records: &mut Records,
+    ) -> Result<Opening, Refusal>
+        requires { BookSound self.old (book_in book.old) }
+        ensures exact { (entries : List ℕ) → open_called self.new result (book_in book.new) entries records.new
+            ≡ open_of (market_in self.old book.old entries) lent records.old }
+        ensures sound { (entries : List ℕ) → Sound (market_in self.old book.old entries)
+            → Sound (market_in self.new book.new entries) }
+        ensures values { (entries : List ℕ) → printed (open_answer_of result)
+            ≡ printed (open_of (market_in self.old book.old entries) lent records.old).answer }
+    {
+        let Some(price) = which_way(self.accepted, self.series(), lent, book)? else {
+            self.open_on(self.tallies);
+            return Ok(Opening {
                 price: Cents(0),
                 volume: Contracts(0),
                 fills: 0,
-            }),
-        },
-        Ok(Some(price)) => {
-            let done = open_book(s.tallies, price, book, records);
-            Opened {
-                session: open_on(s, done.tallies),
-                answer: Ok(Opening {
-                    price,
-                    volume: done.volume,
-                    fills: done.fills,
-                }),
-            }
-        }
+            });
+        };
+        let done = open_book(self.tallies, price, book, records);
+        self.open_on(done.tallies);
+        Ok(Opening {
+            price,
+            volume: done.volume,
+            fills: done.fills,
+        })
     }
 }

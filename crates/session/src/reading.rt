@@ -9,13 +9,15 @@ use entry::refusal::Refusal;
 use tally::Tally;
 use units::TENANTS;
 
-// Turns taken, contracts bought and contracts sold of a tenant, or why there are none to read.
-pub fn tally_of(s: Session, tenant: u32) -> Result<Tally, Refusal>
-    ensures { tallied_as result ≡ tallied_of s tenant }
-{
-    let t = tenant as usize;
-    if TENANTS <= t {
-        return Err(Refusal::NoSuchTenant);
+impl Session {
+    // Turns taken, contracts bought and contracts sold of a tenant, or why there are none to read.
+    pub fn tally_of(&self, tenant: u32) -> Result<Tally, Refusal>
+        ensures { tallied_as result ≡ tallied_of self.now tenant }
+    {
+        let t = tenant as usize;
+        if TENANTS <= t {
+            return Err(Refusal::NoSuchTenant);
+        }
+        Ok(self.tallies[t])
     }
-    Ok(s.tallies[t])
 }

@@ -1,11 +1,11 @@
 // The call settings.
 ghost use Rattle.std.specs.Prelude.{◌≡◌};
 ghost use Rattle.book.specs.Lent.{book_in};
-ghost use Rattle.session.specs.Market.{market_in, answered_of};
+ghost use Rattle.session.specs.Market.{market_in, called};
 ghost use Rattle.session.specs.Settings.{started_on, settings_of};
 ghost use Rattle.session.specs.Sound.{Sound};
 
-use crate::{Answered, Session};
+use crate::Session;
 use book::Book;
 use entry::ranges::{in_range, terms_of};
 use entry::refusal::Refusal;
@@ -32,30 +32,28 @@ pub(crate) fn started(accepted: bool, terms: Terms) -> Session
     }
 }
 
-// Accepted settings start all of the market anew.
-pub fn settings(s: Session, given: Settings, book: &mut Book, entries: &mut Entries) -> Answered
-    ensures exact { answered_of result (book_in book.new) entries.new
-        ≡ settings_of (market_in s book.old entries.old) given }
-    ensures sound { Sound (market_in s book.old entries.old)
-        → Sound (market_in result.session book.new entries.new) }
-{
-    let Some(grid) = Grid::of(given.grid) else {
-        return Answered {
-            session: s,
-            answer: Err(Refusal::OutOfRange),
+impl Session {
+    // Accepted settings start all of the market anew.
+    pub fn settings(
+        &mut self,
+        given: Settings,
+        book: &mut Book,
+        entries: &mut Entries,
+    ) -> Result<(), Refusal>
+        ensures exact { called self.new result (book_in book.new) entries.new
+            ≡ settings_of (market_in self.old book.old entries.old) given }
+        ensures sound { Sound (market_in self.old book.old entries.old)
+            → Sound (market_in self.new book.new entries.new) }
+    {
+        let Some(grid) = Grid::of(given.grid) else {
+            return Err(Refusal::OutOfRange);
         };
-    };
-    if !in_range(given) {
-        return Answered {
-            session: s,
-            answer: Err(Refusal::OutOfRange),
-        };
-    }
-    *book = Book::new();
-    *entries = [0; ALL_ENTRIES];
-    let terms = terms_of(given, grid);
-    Answered {
-        session: started(true, terms),
-        answer: Ok(()),
+        if !in_range(given) {
+            return Err(Refusal::OutOfRange);
+        }
+        *book = Book::new();
+        *entries = [0; ALL_ENTRIES];
+        *self = started(true, terms_of(given, grid));
+        Ok(())
     }
 }

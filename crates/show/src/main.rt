@@ -4,12 +4,11 @@
 
 use book::{Book, Fill};
 use entry::Settings;
+use entry::refusal::Refusal;
 use fills::on_row::{OnRow, open_on_row, turn_on_row};
 use fills::turn_fills;
 use lanes::ALL_ENTRIES;
-use session::settings::settings;
-use session::submit::submit;
-use session::{Session, Turned};
+use session::{Session, Taken};
 use std::io;
 use units::Cents;
 
@@ -44,7 +43,7 @@ fn show_fill(rt: &HostRuntime, f: Fill) -> io::Result<()> {
 }
 
 // The fills that the turn wrote.
-fn show(rt: &HostRuntime, done: &OnRow<Turned>) -> io::Result<()> {
+fn show(rt: &HostRuntime, done: &OnRow<Result<Taken, Refusal>>) -> io::Result<()> {
     let count = turn_fills(done.returned);
     for &f in done.row.iter().take(count) {
         show_fill(rt, f)?;
@@ -57,12 +56,13 @@ fn main(rt: HostRuntime) -> io::Result<()> {
     let mut entries = [0u32; ALL_ENTRIES];
     let buy = [1u32, 1, 1, 100, 5, 0];
     let sell = [1u32, 2, 2, 100, 3, 0];
-    let set = settings(Session::new(), worked(), &mut book, &mut entries);
-    let quiet = open_on_row(set.session, &mut book);
-    let buys = submit(quiet.returned.session, 2, 1, &buy, &mut entries);
-    let sells = submit(buys.session, 7, 1, &sell, &mut entries);
-    let first = turn_on_row(sells.session, &mut book, &entries);
+    let mut session = Session::new();
+    let _ = session.settings(worked(), &mut book, &mut entries);
+    let _ = open_on_row(&mut session, &mut book);
+    let _ = session.submit(2, 1, &buy, &mut entries);
+    let _ = session.submit(7, 1, &sell, &mut entries);
+    let first = turn_on_row(&mut session, &mut book, &entries);
     show(&rt, &first)?;
-    let second = turn_on_row(first.returned.session, &mut book, &entries);
+    let second = turn_on_row(&mut session, &mut book, &entries);
     show(&rt, &second)
 }

@@ -17,10 +17,10 @@ use Rattle.replay.proofs.events.open_event.Goals as goal
 fills_are : {d e : Stored OpenAnswer} → d ≡ e → fills_in d.answer ≡ fills_in e.answer
 fills_are e = ap (λ (x : Stored OpenAnswer). fills_in x.answer) e
 
-pub open_lines-end-requires : goal.open_lines-end-requires
-open_lines-end-requires c =
+pub open_lines-requires : goal.open_lines-requires
+open_lines-requires c =
     let a = c.args in
-    let m = market_of a.s (book_in a.book.now) [] in
+    let m = market_of a.s.now (book_in a.book.now) [] in
     record {
       room = c.requires.room;
       answer_bound = omega (arith, fills_are (c.open_on_row-done.ensures.exact []), open_few m (length empty_row) blank);
@@ -32,5 +32,5 @@ returns c =
     let a = c.args in
     let exact = c.open_on_row-done.ensures.exact entries in
     let kept : c.open_on_row-done.new.book.numbers ≡ a.book.now.numbers =
-    ap (λ (d : Stored OpenAnswer). d.market.book.numbers) exact ∙ numbers_stand (market_of a.s (book_in a.book.now) entries) _ _ in
-    open_replayed _ _ _ _ _ _ exact (c.open_on_row-done.ensures.sound entries can.sound) (rw kept at c.open_lines-end.ensures)
+    ap (λ (d : Stored OpenAnswer). d.market.book.numbers) exact ∙ numbers_stand (market_of a.s.now (book_in a.book.now) entries) _ _ in
+    open_replayed _ _ _ _ _ _ exact (c.open_on_row-done.ensures.sound entries can.sound) (rw kept at c.open_lines.ensures)

@@ -14,20 +14,20 @@ overflow_add-base c =
 pub returns-in-Ok-Some : goal.returns-in-Ok-Some
 returns-in-Ok-Some c =
     let a = c.args in
-    let m = market_in a.s a.book.now a.entries.now in
+    let m = market_in a.s.now a.book.now a.entries.now in
     step_read m a.bytes.now a.from a.base a.given.now a.out.now a.at _ c.event.ensures.answer _ c.event.ensures.entries _ _ _ _ _
-    (c.in-Ok-Some.is ∙ ap Ok c.in-Ok-Some.field-0-is) c.event-done.ensures refl refl
+    (c.in-Ok-Some.is ∙ ap Ok c.in-Ok-Some.field-0-is) c.event-printed.ensures refl refl
 
 pub returns-in-Err : goal.returns-in-Err
 returns-in-Err c =
     let a = c.args in
-    let m = market_in a.s a.book.now a.entries.now in
+    let m = market_in a.s.now a.book.now a.entries.now in
     step_refused m a.bytes.now a.from a.base a.given.now a.out.now a.at _ c.event.ensures.answer _ c.event.ensures.entries c.requires.can_replay _ _ refl _
     c.in-Err.is (rw c.number.ensures at c.tape_line.ensures) refl
 
 pub returns-in-Ok-None : goal.returns-in-Ok-None
 returns-in-Ok-None c =
     let a = c.args in
-    let m = market_in a.s a.book.now a.entries.now in
+    let m = market_in a.s.now a.book.now a.entries.now in
     step_end m a.bytes.now a.from a.base a.given.now a.out.now a.at _ c.event.ensures.answer _ c.event.ensures.entries c.requires.can_replay _ _ refl
     (c.in-Ok-None.is ∙ ap Ok c.in-Ok-None.field-0-is) c.end_line.ensures refl
