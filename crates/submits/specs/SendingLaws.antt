@@ -27,6 +27,7 @@ use Rattle.sheet.specs.Reading.{begun_of, CanStep}
 use Rattle.sheet.specs.Submits.{six_numbers, submit_of}
 use Rattle.sheet.specs.Parts.{Reader, steps, kept}
 use Rattle.sheet.specs.PartsLaws.{kept_long, more_line, more_good, more_left, order_line, order_onward, order_good, order_left, refused_left}
+use Rattle.writer.specs.declared.Refusal.{Refusal}
 use Rattle.submits.specs.declared.Sent.{Sent}
 use Rattle.submits.specs.Sending.{sent_of, reader_of, CanSend, Sends, SendsLine, CanSendAll, SendsAll}
 
@@ -62,12 +63,15 @@ module _ (o : Order) (out : List ℕ) (at : ℕ) (room : at + most_bytes ≤ len
         after = omega (arith, u.1);
       }
 
+  pub put_refused : {why : Refusal} → r ≡ Err why → ⊥
+  put_refused e = let u = refused_says (submit_of o) (length behind) is e in omega (arith, taken, u.0, u.1)
+
   pub put_taken : IsOk r
   put_taken = go r refl
     where
       go : (x : Written) → r ≡ x → IsOk x
       go (Ok n) e = refl
-      go (Err why) e = let u = refused_says (submit_of o) (length behind) is e in absurd (omega (arith, taken, u.0, u.1))
+      go (Err why) e = absurd (put_refused e)
 
 -- nothing is written
 lays_none : (out : List ℕ) (at : ℕ) → Lays out at [] at out
