@@ -29,7 +29,8 @@ use units::{Cents, Contracts};
 
 // An entry turned down: nothing changes.
 fn turned_down(tallies: Tallies, why: TurnDown) -> Dealt
-    ensures { (s : Series·given) (n : ℕ) (b : Book·given) (was : List ℕ) → made_of result b was ≡ turned_down (floor_of s tallies n b) was (turn_down_number why) }
+    ensures { (s : Series·given) (n : ℕ) (b : Book·given) (was : List ℕ) → made_of result b was
+        ≡ turned_down (floor_of s tallies n b) was (turn_down_number why) }
 {
     Dealt {
         tallies,

@@ -5,7 +5,7 @@ use native.Mathlib.Omega.{arith}
 use mathlib.Core.List.{List}
 use Rattle.std.proofs.Common.{Ok, Err, rules}
 use Prim.Native.Nat.{ℕ}
-use Rattle.session.specs.Market.{Market, market_in, series_of}
+use Rattle.session.specs.Market.{Market, series_of}
 use Rattle.session.specs.Open.{open_of, by_way}
 use Rattle.dealing.specs.declared.Series.{Series}
 use Rattle.dealing.specs.Way.{Way, way_told}
@@ -22,34 +22,27 @@ made m lent was e way is = by_way_lem m lent was _ (sym is ∙ (way ∙ ap (λ (
 
 pub open_book-done-requires : goal.open_book-done-requires
 open_book-done-requires c =
-    let a = c.args in
-    can_open a.self.now _ _ (c.requires (priced_accepted _ _ _ _ _ c.which_way.ensures (ap way_told (c.in_ok-price.was ∙ ap Ok c.in-Some.is)))) (omega arith)
+    can_open c.args.self.now _ _ (c.requires (priced_accepted _ _ _ _ _ c.which_way.ensures (ap way_told (c.in_ok-price.was ∙ ap Ok c.in-Some.is)))) (omega arith)
 
 pub returns-in_err-price : goal.returns-in_err-price
 returns-in_err-price c =
-    let a = c.args in
-    let m : List ℕ → Market = λ entries. market_in a.self.now a.book.now entries in
     let same : c.from_residual.result ≡ Err c.in_err-price.field-0.0 = search rules in
-    let all = as_defined _ _ _ _ _ _ (record { session = _; answer = Err c.in_err-price.field-0.0 }) (λ entries. made (m entries) _ _ c.series.ensures c.which_way.ensures (ap way_told c.in_err-price.was)) in
+    let all = as_defined _ _ _ _ _ _ (record { session = _; answer = Err c.in_err-price.field-0.0 }) (λ entries. made _ _ _ c.series.ensures c.which_way.ensures (ap way_told c.in_err-price.was)) in
     record { exact = rw same all.0; sound = all.1.0; values = rw same all.1.1 }
 
 pub returns-in_default : goal.returns-in_default
 returns-in_default c =
-    let a = c.args in
-    let m : List ℕ → Market = λ entries. market_in a.self.now a.book.now entries in
     let all =
     as_defined _ _ _ _ _ _ (record { session = _; answer = Ok _ })
-    (λ entries. quiet_is (m entries) _ _ c.open_on.ensures ∙ made (m entries) _ _ c.series.ensures c.which_way.ensures (ap way_told (c.in_ok-price.was ∙ ap Ok c.in_default.is))) in
+    (λ entries. quiet_is _ _ _ c.open_on.ensures ∙ made _ _ _ c.series.ensures c.which_way.ensures (ap way_told (c.in_ok-price.was ∙ ap Ok c.in_default.is))) in
     record { exact = all.0; sound = all.1.0; values = all.1.1 }
 
 pub returns : goal.returns
 returns c =
-    let a = c.args in
-    let m : List ℕ → Market = λ entries. market_in a.self.now a.book.now entries in
     let done = c.open_book-done.ensures in
     let all =
     as_defined _ _ _ _ _ _ (record { session = _; answer = Ok _ })
     (λ entries.
-    matched_is (m entries) _ _ _ _ _ _ done.numbers_value done.records_after done.value c.open_on-2.ensures
-    ∙ made (m entries) _ _ c.series.ensures c.which_way.ensures (ap way_told (c.in_ok-price.was ∙ ap Ok c.in-Some.is))) in
+    matched_is _ _ _ _ _ _ _ done.numbers_value done.records_after done.value c.open_on-2.ensures
+    ∙ made _ _ _ c.series.ensures c.which_way.ensures (ap way_told (c.in_ok-price.was ∙ ap Ok c.in-Some.is))) in
     record { exact = all.0; sound = all.1.0; values = all.1.1 }
