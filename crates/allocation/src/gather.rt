@@ -11,7 +11,7 @@ ghost use Rattle.levels.specs.Lent.{keys_in, opens_in, level_in};
 ghost use Rattle.allocation.specs.Gathering.{put_after, Gathered, Joined};
 
 use levels::row::tradable_at;
-use rows::row::{key, reachable, wide};
+use rows::row::{key, reachable};
 use rows::{Column, ROWS};
 use units::{Cents, Contracts, Total};
 
@@ -36,8 +36,6 @@ fn put_after(
     held: &mut Column,
 ) -> usize
     requires count_lt_rows { count < rows }
-    requires keys_len { length keys.old ≡ rows }
-    requires held_len { length held.old ≡ rows }
     ensures keys_after { keys.new ≡ put_after taken k keys.old count }
     ensures held_after { held.new ≡ put_after taken size.0 held.old count }
     ensures value { result ≡ count + keep taken 1 }
@@ -61,18 +59,14 @@ pub(crate) fn in_reach(
     keys: &mut Column,
     held: &mut Column,
 ) -> usize
-    requires keys_len { length keys.old ≡ rows }
-    requires held_len { length held.old ≡ rows }
     ensures { Gathered (keys_in side prices) (opens_in side bound.0 sides prices sizes) rows keys.new held.new result }
 {
     let mut count: usize = 0;
-    let mut i: usize = 0;
-    while i < ROWS {
+    for i in 0..ROWS {
         let price = Cents(prices[i]);
         let size = Contracts(sizes[i]);
         let taken = reachable(side, bound, sides[i], price, size);
         count = put_after(taken, key(side, price), size, count, keys, held);
-        i += 1;
     }
     count
 }
@@ -89,13 +83,10 @@ pub(crate) fn at_key(
     orders: &mut Column,
     held: &mut Column,
 ) -> usize
-    requires orders_len { length orders.old ≡ rows }
-    requires held_len { length held.old ≡ rows }
     ensures { Gathered (found numbers) (level_in side bound.0 c sides prices sizes) rows orders.new held.new result }
 {
     let mut count: usize = 0;
-    let mut i: usize = 0;
-    while i < ROWS {
+    for i in 0..ROWS {
         let size = tradable_at(
             side,
             bound,
@@ -105,7 +96,6 @@ pub(crate) fn at_key(
             Contracts(sizes[i]),
         );
         count = put_after(0 < size.0, numbers[i], size, count, orders, held);
-        i += 1;
     }
     count
 }
@@ -125,7 +115,7 @@ fn joined(best: Best, floor: u64, k: u64, size: Contracts) -> Best
         if 0 < size.0 {
             Best {
                 key: k,
-                total: Total(wide(size.0)),
+                total: Total(u64::from(size.0)),
             }
         } else {
             best
@@ -133,7 +123,7 @@ fn joined(best: Best, floor: u64, k: u64, size: Contracts) -> Best
     } else if k == at {
         Best {
             key: at,
-            total: Total(best.total.0 + wide(size.0)),
+            total: Total(best.total.0 + u64::from(size.0)),
         }
     } else {
         best
@@ -143,8 +133,6 @@ fn joined(best: Best, floor: u64, k: u64, size: Contracts) -> Best
 // The best key from the floor on among the first `count`, and what they hold there: in one pass.
 pub(crate) fn best_from(keys: &Column, held: &Column, count: usize, top: u64, floor: u64) -> Best
     requires count_le_rows { count ≤ rows }
-    requires keys_len { length keys.now ≡ rows }
-    requires held_len { length held.now ≡ rows }
     requires floor_le_top { floor ≤ top }
     ensures key_value { result.key ≡ best_from count top (found keys) (found held) floor }
     ensures total_value { result.total.0 ≡ sum_to (same (found keys) result.key (found held)) count }
@@ -153,10 +141,8 @@ pub(crate) fn best_from(keys: &Column, held: &Column, count: usize, top: u64, fl
         key: top,
         total: Total(0),
     };
-    let mut j: usize = 0;
-    while j < count {
-        best = joined(best, floor, wide(keys[j]), Contracts(held[j]));
-        j += 1;
+    for j in 0..count {
+        best = joined(best, floor, u64::from(keys[j]), Contracts(held[j]));
     }
     best
 }

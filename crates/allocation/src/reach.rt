@@ -9,7 +9,6 @@ ghost use Rattle.allocation.specs.Edge.{EdgeAt};
 ghost use Rattle.allocation.specs.Ranges.{KeysBelow, Priced, Numbered};
 
 use crate::gather::{UNFILLED, at_key, best_from, in_reach};
-use rows::row::wide;
 use rows::{Column, NO_KEY, NO_NUMBER, ROWS};
 use units::{Cents, Contracts, Total};
 
@@ -24,8 +23,6 @@ pub struct Edge {
 // is filled whole.
 fn edge_among(keys: &Column, held: &Column, count: usize, top: u64, q: Contracts) -> Edge
     requires count_le_rows { count ≤ rows }
-    requires keys_len { length keys.now ≡ rows }
-    requires held_len { length held.now ≡ rows }
     requires top_le_no_number { top ≤ no_number }
     requires keys_below { KeysBelow top count keys.now held.now }
     ensures { EdgeAt count top (found keys) (found held) q.0 result.key result.left.0 }
@@ -34,7 +31,7 @@ fn edge_among(keys: &Column, held: &Column, count: usize, top: u64, q: Contracts
     let mut floor: u64 = 0;
     while floor < top {
         let best = best_from(keys, held, count, top, floor);
-        if wide(left) < best.total.0 {
+        if u64::from(left) < best.total.0 {
             return Edge {
                 key: best.key,
                 left: Contracts(left),
@@ -81,7 +78,7 @@ pub fn edge_of(
     requires all_value { all.0 ≡ resting_within rows (at sides.now) (at prices.now) (at sizes.now) side bound.0 }
     ensures { EdgeAt rows no_price (keys_in side prices) (opens_in side bound.0 sides prices sizes) q.0 result.key result.left.0 }
 {
-    if all.0 <= wide(q.0) {
+    if all.0 <= u64::from(q.0) {
         Edge {
             key: NO_KEY,
             left: Contracts(q.0 - all.0 as u32),

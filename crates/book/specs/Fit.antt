@@ -24,3 +24,7 @@ pub record Fit (prices sizes numbers : List ℕ) : Type 0 where
   pub priced : Priced prices sizes
   pub numbered : Numbered sizes numbers
   pub apart : Apart sizes numbers
+
+-- the same of a book
+abbrev pub FitBook : Book → Type 0
+FitBook b = Fit b.prices b.sizes b.numbers

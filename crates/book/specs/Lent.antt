@@ -4,6 +4,11 @@
 use Rattle.std.specs.Prelude.{List, [], ℕ}
 use Rattle.units.specs.Lent.{Column, ColumnMut, Lent, LentMut}
 use Rattle.book.specs.Book.{Book, book_of}
+use Rattle.book.specs.declared.Book.{Book as Columns}
+
+-- the book that the columns are
+abbrev pub book_in : Columns → Book
+book_in c = book_of c.sides c.prices c.sizes c.owners c.numbers
 
 -- the book that a call is lent, in its demands
 abbrev pub given : ColumnMut → ColumnMut → ColumnMut → ColumnMut → ColumnMut → Book

@@ -1,5 +1,5 @@
 -- What a lookup says, proved once over the test that a row must pass.
-use Rattle.std.specs.Prelude.{◌≡◌, refl, ◌↔◌, Bool, true, ℕ, ◌≤◌, ◌<◌, ltb}
+use Rattle.std.specs.Prelude.{◌≡◌, refl, ◌↔◌, Bool, true, ℕ, ◌≤◌, ◌<◌, ltb, Result, Ok, Err}
 use Rattle.std.proofs.Math.Path.{ap}
 use Rattle.std.proofs.Common.{arith}
 use borrow.Author.Tests.{lt-ltb, le-ltb, ltb-true, ltb-false}
@@ -8,16 +8,15 @@ use Rattle.units.specs.Says.{&&-says, less_says, same_says}
 use Rattle.units.specs.Firsts.{first_to, first_holds, first_least}
 use Rattle.rows.specs.Rows.{is_order}
 use Rattle.rows.specs.Passes.{order_row}
-use Rattle.book.specs.declared.lookup.Found.{Found}
-use Rattle.book.specs.declared.lookup.Found.TheVariants.{Rests, GivenOut, NeverGiven}
+use Rattle.book.specs.declared.lookup.Lost.{Lost}
+use Rattle.book.specs.declared.lookup.Lost.TheVariants.{GivenOut, NeverGiven}
 use Rattle.book.specs.Book.{Book, size_at, owner_at, number_at}
 use Rattle.book.specs.Lookup.{code_of, found_by, order_at, found, RestsAs, NoRow, FoundSays}
 
 -- the row that an answer names
-row_in : Found → ℕ
-row_in (Rests row) = row
-row_in GivenOut = 0
-row_in NeverGiven = 0
+row_in : Result ℕ Lost → ℕ
+row_in (Ok row) = row
+row_in (Err why) = 0
 
 module _ (places : ℕ) (test : ℕ → Bool) (next number : ℕ) (Row : ℕ → Type 0) (is : (i : ℕ) → ((i < places) × (test i ≡ true)) ↔ Row i) where
   abbrev row : ℕ
@@ -27,7 +26,7 @@ module _ (places : ℕ) (test : ℕ → Bool) (next number : ℕ) (Row : ℕ →
   none_before : (i : ℕ) → Row i → (i < places) × (row ≤ i)
   none_before i r = let (inside, passes) = (is i).1 r in (inside, first_least test places i inside passes)
 
-  found_at : row < places → FoundSays Row next number (Rests row)
+  found_at : row < places → FoundSays Row next number (Ok row)
   unfolding row_in
   found_at h =
       let there : Row row = (is row).0 (h, first_holds test places h) in
@@ -40,7 +39,7 @@ module _ (places : ℕ) (test : ℕ → Bool) (next number : ℕ) (Row : ℕ →
       }
 
   -- where no row is the order, by the answer's number
-  found_not : NoRow Row → (f : Found) → 0 < code_of f → (code_of f ≡ 18) ↔ (number < next) → (code_of f ≡ 22) ↔ (next ≤ number) → FoundSays Row next number f
+  found_not : NoRow Row → (f : Result ℕ Lost) → 0 < code_of f → (code_of f ≡ 18) ↔ (number < next) → (code_of f ≡ 22) ↔ (next ≤ number) → FoundSays Row next number f
   found_not none f some out never = record {
     rests = (λ x. absurd (omega (arith, x)), λ (i, r). absurd (none i r));
     given_out = (λ x. (out.0 x, none), λ (below, _). out.1 below);
@@ -58,10 +57,10 @@ module _ (places : ℕ) (test : ℕ → Bool) (next number : ℕ) (Row : ℕ →
       picked P (ltb number next) _ _
       (λ k.
       let below = ltb-true number next k in
-      found_not none GivenOut (omega arith) (λ _. below, λ _. refl) (λ x. absurd (omega (arith, x)), λ past. absurd (omega arith)))
+      found_not none (Err GivenOut) (omega arith) (λ _. below, λ _. refl) (λ x. absurd (omega (arith, x)), λ past. absurd (omega arith)))
       (λ k.
       let past = ltb-false number next k in
-      found_not none NeverGiven (omega arith) (λ x. absurd (omega (arith, x)), λ below. absurd (omega arith)) (λ _. past, λ _. refl)))
+      found_not none (Err NeverGiven) (omega arith) (λ x. absurd (omega (arith, x)), λ below. absurd (omega arith)) (λ _. past, λ _. refl)))
 
 -- ---- a tenant's lookup
 
@@ -82,14 +81,14 @@ module _ (b : Book) (t n : ℕ) where
 
   -- the answers as the code comes to them, by the order's row
   module _ (next row : ℕ) (is : row ≡ order_row b.places (owner_at b) (number_at b) (size_at b) t n) where
-    pub rests_there : row < b.places → Rests row ≡ found b next t n
+    pub rests_there : row < b.places → Ok row ≡ found b next t n
     unfolding found found_by order_row pick
     rests_there h = rw (← is, lt-ltb row b.places h)
 
-    pub is_given_out : b.places ≤ row → n < next → GivenOut ≡ found b next t n
+    pub is_given_out : b.places ≤ row → n < next → Err GivenOut ≡ found b next t n
     unfolding found found_by order_row pick
     is_given_out h k = rw (← is, le-ltb row b.places h, lt-ltb n next k)
 
-    pub is_never_given : b.places ≤ row → next ≤ n → NeverGiven ≡ found b next t n
+    pub is_never_given : b.places ≤ row → next ≤ n → Err NeverGiven ≡ found b next t n
     unfolding found found_by order_row pick
     is_never_given h k = rw (← is, le-ltb row b.places h, le-ltb n next k)

@@ -175,3 +175,8 @@ module _ (sides prices sizes owners numbers : List ℕ) (fit : Fit prices sizes 
       → ◌≡◌ {A = Traded} (record { filled = contracts f; fills = n }) (traded_of b side bound q allocation)
   unfolding traded_of
   trade_answers f n e e' = λ j. record { filled = contracts (e j); fills = e' j }
+
+-- a trade leaves whose rows they are, and on which side
+pub untraded : (b c : Book) (side bound q allocation : ℕ) → c ≡ after_trade b side bound q allocation → (c.sides ≡ b.sides) × (c.owners ≡ b.owners)
+unfolding after_trade
+untraded b c side bound q allocation e = (ap (λ (d : Book). d.sides) e, ap (λ (d : Book). d.owners) e)

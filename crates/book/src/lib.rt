@@ -9,7 +9,38 @@ pub mod resting;
 pub mod shares;
 pub mod trading;
 
+ghost use Rattle.std.specs.Prelude.{◌≡◌};
+ghost use Rattle.rows.specs.Rows.{rows};
+ghost use Rattle.book.specs.Book.{empty_book};
+ghost use Rattle.book.specs.Lent.{book_in};
+
+use rows::Column;
 use units::{Cents, Contracts};
+
+// The book: row i is what stands at place i of each column. It is lent to whatever reads or changes it.
+#[derive(Drop)]
+pub struct Book {
+    pub sides: Column,
+    pub prices: Column,
+    pub sizes: Column,
+    pub owners: Column,
+    pub numbers: Column,
+}
+
+impl Book {
+    // A book in which nothing rests.
+    pub fn new() -> Book
+        ensures { book_in result ≡ empty_book rows }
+    {
+        Book {
+            sides: [0u32; 216],
+            prices: [0u32; 216],
+            sizes: [0u32; 216],
+            owners: [0u32; 216],
+            numbers: [0u32; 216],
+        }
+    }
+}
 
 // One fill: order number, tenant, quantity, price.
 #[derive(Clone, Copy)]

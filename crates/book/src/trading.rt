@@ -2,17 +2,14 @@
 ghost use Rattle.std.specs.Prelude.{◌≡◌, ◌*◌, ◌-◌, min, length};
 ghost use Rattle.units.specs.Places.{at, table};
 ghost use Rattle.rows.specs.Rows.{rows};
-ghost use Rattle.book.specs.Lent.{before_sizing, after_sizing};
+ghost use Rattle.book.specs.Lent.{book_in};
 ghost use Rattle.book.specs.Trading.{traded, after_trade, trade_written};
 ghost use Rattle.book.specs.Answers.{traded_of};
-ghost use Rattle.book.specs.Fit.{Fit};
+ghost use Rattle.book.specs.Fit.{FitBook};
 ghost use Rattle.book.specs.Records.{fields};
 
-use crate::Records;
-use crate::records::record;
-use crate::shares::shares;
+use crate::{Book, Records};
 use rows::passes::resting_within;
-use rows::row::{beyond, lesser_wide, wide};
 use rows::{Column, ROWS};
 use units::{Cents, Contracts, Total};
 
@@ -25,13 +22,10 @@ pub struct Traded {
 
 // Takes what each row traded out of its size.
 pub fn remove(quantities: &Column, sizes: &mut Column)
-    requires { length sizes.old ≡ rows }
     ensures { sizes.new ≡ table (λ i. at sizes.old i - at quantities.now i) rows }
 {
-    let mut i: usize = 0;
-    while i < ROWS {
-        sizes[i] = beyond(sizes[i], quantities[i]);
-        i += 1;
+    for i in 0..ROWS {
+        sizes[i] = sizes[i].saturating_sub(quantities[i]);
     }
 }
 
@@ -39,48 +33,42 @@ pub fn remove(quantities: &Column, sizes: &mut Column)
 fn fillable(q: Contracts, all: Total) -> Contracts
     ensures { result.0 ≡ min q.0 all.0 }
 {
-    Contracts(lesser_wide(wide(q.0), all.0) as u32)
+    Contracts(u64::from(q.0).min(all.0) as u32)
 }
 
-// An order trades with the rows of one side within its bound, best price first, by the class; what each row trades and
-// the records are written to the lent memory.
-pub fn trade(
-    allocation: u32,
-    side: u32,
-    bound: Cents,
-    q: Contracts,
-    sides: &Column,
-    prices: &Column,
-    sizes: &mut Column,
-    owners: &Column,
-    numbers: &Column,
-    shared: &mut Column,
-    lent: &mut Records,
-) -> Traded
-    requires fit { Fit prices.now sizes.old numbers.now }
-    requires lent_len { length lent.old ≡ fields * rows }
-    ensures numbers_value { after_sizing sides prices sizes owners numbers
-        ≡ after_trade (before_sizing sides prices sizes owners numbers) side bound.0 q.0 allocation }
-    ensures lent_after { lent.new ≡ trade_written (before_sizing sides prices sizes owners numbers) side bound.0 q.0 allocation lent.old }
-    ensures shared_after { shared.new ≡ table (traded (before_sizing sides prices sizes owners numbers) side bound.0 q.0 allocation) rows }
-    ensures value { result ≡ traded_of (before_sizing sides prices sizes owners numbers) side bound.0 q.0 allocation }
-{
-    let all = resting_within(side, bound, sides, prices, sizes);
-    if all.0 == 0 {
-        *shared = [0u32; 216];
-        return Traded {
-            filled: Contracts(0),
-            fills: 0,
-        };
-    }
-    let quantities = shares(
-        allocation, side, bound, q, all, sides, prices, sizes, numbers,
-    );
-    *shared = quantities;
-    let fills = record(prices, sides, prices, shared, owners, numbers, lent);
-    remove(shared, sizes);
-    Traded {
-        filled: fillable(q, all),
-        fills: fills,
+impl Book {
+    // An order trades with the rows of one side within its bound, best price first, by the class; what each row trades
+    // and the records are written to the lent memory.
+    pub fn trade(
+        &mut self,
+        allocation: u32,
+        side: u32,
+        bound: Cents,
+        q: Contracts,
+        shared: &mut Column,
+        lent: &mut Records,
+    ) -> Traded
+        requires fit { FitBook (book_in self.old) }
+        ensures numbers_value { book_in self.new ≡ after_trade (book_in self.old) side bound.0 q.0 allocation }
+        ensures lent_after { lent.new ≡ trade_written (book_in self.old) side bound.0 q.0 allocation lent.old }
+        ensures shared_after { shared.new ≡ table (traded (book_in self.old) side bound.0 q.0 allocation) rows }
+        ensures value { result ≡ traded_of (book_in self.old) side bound.0 q.0 allocation }
+    {
+        let all = resting_within(side, bound, &self.sides, &self.prices, &self.sizes);
+        if all.0 == 0 {
+            *shared = [0; ROWS];
+            return Traded {
+                filled: Contracts(0),
+                fills: 0,
+            };
+        }
+        let quantities = self.shares(allocation, side, bound, q, all);
+        *shared = quantities;
+        let fills = self.record(&self.prices, shared, lent);
+        remove(shared, &mut self.sizes);
+        Traded {
+            filled: fillable(q, all),
+            fills,
+        }
     }
 }

@@ -1,10 +1,10 @@
 -- What an entry makes of what it meets.
-use Rattle.std.specs.Prelude.{List, ℕ, ◌-◌, eqb}
+use Rattle.std.specs.Prelude.{List, ℕ, ◌-◌, eqb, Result, Ok, Err}
 use Rattle.units.specs.declared.Cents.{Cents}
 use Rattle.units.specs.Units.{contracts}
 use Rattle.units.specs.Tests.{pick}
-use Rattle.book.specs.declared.lookup.Found.{Found}
-use Rattle.book.specs.declared.lookup.Found.TheVariants.{Rests as RestsIn, GivenOut, NeverGiven}
+use Rattle.book.specs.declared.lookup.Lost.{Lost}
+use Rattle.book.specs.declared.lookup.Lost.TheVariants.{GivenOut, NeverGiven}
 use Rattle.book.specs.Book.{Book, best_bid, best_offer, resting_of, rested, freed}
 use Rattle.book.specs.Lookup.{code_of, found}
 use Rattle.book.specs.Trading.{filled, after_trade, trade_records, trade_written}
@@ -13,11 +13,10 @@ use Rattle.entry.specs.declared.Quotes.{Quotes}
 use Rattle.entry.specs.Entry.{is_cancel}
 use Rattle.entry.specs.Quotes.{quotes_of}
 use Rattle.checks.specs.declared.Standing.{Standing}
-use Rattle.judge.specs.declared.Judged.{Judged}
-use Rattle.judge.specs.declared.Judged.TheVariants.{TurnedDown, Rests, Trades}
+use Rattle.judge.specs.Judged.{Judged, TurnedDown, Rests, Trades}
 use Rattle.judge.specs.Disposition.{disposition_of}
 use Rattle.judge.specs.Verdict.{verdict}
-use Rattle.dealing.specs.declared.Came.TheVariants as came
+use Rattle.dealing.specs.Came as came
 use Rattle.dealing.specs.Floor.{Floor, Made}
 use Rattle.dealing.specs.Settle.{opposite, tallies_after}
 
@@ -41,10 +40,10 @@ cancelled f was e row = record { book = freed f.book row; tallies = f.tallies; c
 
 -- Cancel, by what the lookup of its number says: it is turned down by 18 where the number is given out and does not
 -- rest for that tenant, and by 22 where it was never given.
-abbrev pub by_found : Floor → List ℕ → Entry → Found → Made
-by_found f was e (RestsIn row) = cancelled f was e row
-by_found f was e GivenOut = turned_down f was (code_of GivenOut)
-by_found f was e NeverGiven = turned_down f was (code_of NeverGiven)
+abbrev pub by_found : Floor → List ℕ → Entry → Result ℕ Lost → Made
+by_found f was e (Ok row) = cancelled f was e row
+by_found f was e (Err GivenOut) = turned_down f was (code_of (Err GivenOut))
+by_found f was e (Err NeverGiven) = turned_down f was (code_of (Err NeverGiven))
 
 -- A number is given out if it is below the one that the next accepted order is given.
 unfoldable pub cancels : Floor → ℕ → List ℕ → Entry → Made

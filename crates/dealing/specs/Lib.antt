@@ -1,5 +1,6 @@
 -- What an entry makes of a book: the rules of document 01 about a turn's entry, as definitions over the parts of a
 -- series, and their laws. Files whose names end in Laws prove; the others state.
+pub mod Came
 pub mod Floor
 pub mod Credit
 pub mod CreditLaws
@@ -13,6 +14,7 @@ pub mod ReachLaws
 pub mod TradeLaws
 pub mod OrderLaws
 pub mod DealLaws
+pub mod Way
 pub mod Open
 pub mod OpenLaws
 pub mod WayLaws

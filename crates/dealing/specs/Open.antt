@@ -1,5 +1,6 @@
 -- An open: which way it goes, what an opening at a price makes of the tallies, and what it asks.
-use Rattle.std.specs.Prelude.{◌≡◌, Bool, List, [], ◌∷◌, ℕ, ◌*◌, ◌≤◌, ltb, length}
+use Rattle.std.specs.Prelude.{◌≡◌, Option, Bool, List, [], ◌∷◌, ℕ, ◌*◌, ◌≤◌, ltb, length}
+use Rattle.units.specs.declared.Cents.{Cents}
 use Rattle.units.specs.Units.{cents, contracts}
 use Rattle.units.specs.Tests.{◌and◌, is_not, pick}
 use Rattle.units.specs.Cases.{Case, ◌when◌, first_of}
@@ -10,14 +11,12 @@ use Rattle.book.specs.Sound.{SoundBook}
 use Rattle.book.specs.Trading.{of_tenant}
 use Rattle.opening.specs.Opening.{volume, bought, sold, opening_records}
 use Rattle.price.specs.declared.Sources.{Sources}
-use Rattle.price.specs.declared.Choice.{Choice}
 use Rattle.price.specs.Price.{price_of, chosen, none_valid}
 use Rattle.tally.specs.declared.Tally.{Tally}
 use Rattle.tally.specs.Tallies.{added}
 use Rattle.dealing.specs.declared.Series.{Series}
 use Rattle.dealing.specs.declared.open.Counted.{Counted}
-use Rattle.dealing.specs.declared.open.Way.{Way}
-use Rattle.dealing.specs.declared.open.Way.TheVariants.{Refused, Quiet, At}
+use Rattle.dealing.specs.Way.{Way, Refused, Quiet, At}
 use Rattle.dealing.specs.Sound.{SoundTallies}
 
 -- contracts that each tenant's rows bought and sold at a price are added to the tallies
@@ -46,7 +45,7 @@ sources_in s = record {
   close = s.terms.close;
 }
 
-unfoldable pub choice_in : Series → Choice
+unfoldable pub choice_in : Series → Option Cents
 choice_in s = price_of (sources_in s)
 
 -- 21 no accepted settings yet: the first refusal of every call but settings

@@ -11,8 +11,7 @@ use Rattle.entry.specs.declared.Quotes.{Quotes}
 use Rattle.rows.specs.Rows.{largest, last_number, no_number}
 use Rattle.entry.specs.Quotes.{quotes_of}
 use Rattle.checks.specs.declared.Standing.{Standing}
-use Rattle.judge.specs.declared.Judged.{Judged}
-use Rattle.judge.specs.declared.Judged.TheVariants.{Rests, Trades}
+use Rattle.judge.specs.Judged.{Judged, Rests, Trades}
 use Rattle.judge.specs.Verdict.{verdict}
 use Rattle.judge.specs.VerdictLaws.{Taken, Ruled, ruled, taken_proper}
 use Rattle.tally.specs.Tallies.{bought_in_all, sold_in_all}
@@ -78,3 +77,24 @@ module _ (f : Floor) (t : ℕ) (e : Entry) (was : List ℕ) (can : CanOrder f t 
   pub by_verdict_lem : (j : Judged) → v ≡ j → by_verdict f t was j ≡ ordered f t was e
   unfolding ordered
   by_verdict_lem j is = ap (by_verdict f t was) (sym is ∙ rw (quoted, stands) at judged)
+
+-- What a new order's verdict gives, in its three cases: an order at rest has a number left, one that trades may settle,
+-- and what the case makes is the definition's.
+pub record Told (f : Floor) (t : ℕ) (e : Entry) (was : List ℕ) (q : Quotes) (v : Judged) : Type 0 where
+  pub left : (j : Entry) → v ≡ Rests j → f.number ≤ last_number
+  pub ready : (j : Entry) (bound : Cents) → v ≡ Trades j bound → CanTrade f t j q was
+  pub makes : (j : Judged) → v ≡ j → by_verdict f t was j ≡ ordered f t was e
+
+pub told_of :
+    (f : Floor) (t : ℕ) (e : Entry) (was : List ℕ) → CanOrder f t e was → (bid offer : Cents) (q : Quotes) (r : ℕ) (v : Judged) →
+    bid ≡ cents (best_bid f.book) → offer ≡ cents (best_offer f.book) → q ≡ quotes_of bid.0 offer.0 f.series.away → r ≡ resting_of f.book t →
+    v ≡ verdict e q f.series.terms (record { opened = f.series.opened; resting = r; next = f.number }) →
+    Told f t e was q v
+told_of f t e was can bid offer q r v bid_is offer_is quotes_are resting_is judged =
+    let quoted = quoted_is f bid offer q bid_is offer_is quotes_are in
+    let stands = stands_is f t r resting_is in
+    record {
+      left = can_rest f t e was can q quoted _ stands v judged;
+      ready = can_trade f t e was can q quoted _ stands v judged;
+      makes = by_verdict_lem f t e was can q quoted _ stands v judged;
+    }

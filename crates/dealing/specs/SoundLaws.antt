@@ -1,6 +1,6 @@
 -- An entry keeps what a floor has: what is left of an order rests only where it has traded with all that was within its
 -- limit.
-use Rattle.std.specs.Prelude.{◌≡◌, true, false, List, ℕ, ◌+◌, ◌-◌, ◌≤◌, ◌<◌, eqb}
+use Rattle.std.specs.Prelude.{◌≡◌, true, false, List, ℕ, ◌+◌, ◌-◌, ◌≤◌, ◌<◌, eqb, Result, Ok, Err}
 use Rattle.std.proofs.Math.Path.{refl}
 use Rattle.std.proofs.Common.{subst}
 use native.Mathlib.Omega.{arith}
@@ -11,8 +11,8 @@ use Rattle.units.specs.Units.{contracts, tenants}
 use Rattle.units.specs.Tests.{pick_yes, pick_no, picked, and_true, holds_not_fails}
 use Rattle.units.specs.CaseLaws.{all_fail}
 use Rattle.rows.specs.Rows.{rows, rows_a_tenant, no_number, last_number}
-use Rattle.book.specs.declared.lookup.Found.{Found}
-use Rattle.book.specs.declared.lookup.Found.TheVariants.{Rests as RestsIn, GivenOut, NeverGiven}
+use Rattle.book.specs.declared.lookup.Lost.{Lost}
+use Rattle.book.specs.declared.lookup.Lost.TheVariants.{GivenOut, NeverGiven}
 use Rattle.book.specs.Book.{Book, side_at, price_at, size_at, resting_of, first_free, rested, freed}
 use Rattle.book.specs.Lookup.{found}
 use Rattle.book.specs.AllocationLaws.{Distinct}
@@ -29,8 +29,7 @@ use Rattle.entry.specs.Entry.{is_cancel, is_limit, new_order, malformed}
 use Rattle.entry.specs.EntryLaws.{Proper, side_bounds, new_unless_cancel}
 use Rattle.checks.specs.declared.Standing.{Standing}
 use Rattle.checks.specs.TurnDown.{might_rest}
-use Rattle.judge.specs.declared.Judged.{Judged}
-use Rattle.judge.specs.declared.Judged.TheVariants.{TurnedDown, Rests, Trades}
+use Rattle.judge.specs.Judged.{Judged, TurnedDown, Rests, Trades}
 use Rattle.judge.specs.Disposition.{disposition_of}
 use Rattle.judge.specs.DispositionLaws.{disposed_by}
 use Rattle.judge.specs.Verdict.{verdict}
@@ -83,10 +82,10 @@ module _ (f : Floor) (kept : Kept f) where
       })
       (λ o. free_uncrossed r.book row (kept.uncrossed o))
 
-  found_kept : (was : List ℕ) (e : Entry) (x : Found) → Kept (floor_after f (by_found f was e x))
-  found_kept was e (RestsIn row) = row_freed was e row
-  found_kept was e GivenOut = kept
-  found_kept was e NeverGiven = kept
+  found_kept : (was : List ℕ) (e : Entry) (x : Result ℕ Lost) → Kept (floor_after f (by_found f was e x))
+  found_kept was e (Ok row) = row_freed was e row
+  found_kept was e (Err GivenOut) = kept
+  found_kept was e (Err NeverGiven) = kept
 
   cancel_kept : (t : ℕ) (was : List ℕ) (e : Entry) → Kept (floor_after f (cancels f t was e))
   unfolding cancels

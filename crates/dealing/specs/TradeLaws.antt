@@ -16,7 +16,7 @@ use Rattle.entry.specs.declared.Quotes.{Quotes}
 use Rattle.judge.specs.Disposition.{disposition_of}
 use Rattle.tally.specs.declared.Tally.{Tally}
 use Rattle.dealing.specs.declared.settle.Settled.{Settled}
-use Rattle.dealing.specs.declared.Came.TheVariants as came
+use Rattle.dealing.specs.Came as came
 use Rattle.dealing.specs.Floor.{Floor}
 use Rattle.dealing.specs.Settle.{opposite, settled_of}
 use Rattle.dealing.specs.Deal.{quotes_on, filled_of, disposition_in, book_after, trades}

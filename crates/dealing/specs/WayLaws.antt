@@ -1,5 +1,5 @@
 -- Which way an open goes, by what each test says.
-use Rattle.std.specs.Prelude.{◌≡◌, Bool, true, false, ℕ, ◌≤◌, ◌<◌}
+use Rattle.std.specs.Prelude.{◌≡◌, Option, Some, None, Bool, true, false, ℕ, ◌≤◌, ◌<◌}
 use Rattle.std.proofs.Math.Path.{sym}
 use Rattle.std.proofs.Common.{ap, ◌∙◌, true≢false}
 use borrow.Author.Tests.{lt-ltb, le-ltb}
@@ -7,11 +7,8 @@ use Rattle.units.specs.declared.Cents.{Cents}
 use Rattle.units.specs.Tests.{◌and◌, is_not, pick, fails, not_holds, not_false}
 use Rattle.rows.specs.Rows.{rows}
 use Rattle.book.specs.Book.{Book, crosses}
-use Rattle.price.specs.declared.Choice.{Choice}
-use Rattle.price.specs.declared.Choice.TheVariants as choice
 use Rattle.dealing.specs.declared.Series.{Series}
-use Rattle.dealing.specs.declared.open.Way.{Way}
-use Rattle.dealing.specs.declared.open.Way.TheVariants.{Refused, Quiet, At}
+use Rattle.dealing.specs.Way.{Way, Refused, Quiet, At}
 use Rattle.dealing.specs.Open.{choice_in, way_refusal, way_of}
 
 module _ (accepted : Bool) (s : Series) (b : Book) (lent : ℕ) where
@@ -34,12 +31,12 @@ module _ (accepted : Bool) (s : Series) (b : Book) (lent : ℕ) where
         unfolding way_of way_refusal pick is_not ◌and◌
         way_quiet h = rw (set, unopened, le-ltb lent rows room, h)
 
-        module _ (crossed : crosses b ≡ true) {c : Choice} (is : c ≡ choice_in s) where
-          pub way_20 : c ≡ choice.NoneValid → Refused 20 ≡ way_of accepted s b lent
+        module _ (crossed : crosses b ≡ true) {c : Option Cents} (is : c ≡ choice_in s) where
+          pub way_20 : c ≡ None → Refused 20 ≡ way_of accepted s b lent
           unfolding way_of way_refusal pick is_not ◌and◌ choice_in
           way_20 h = rw (set, unopened, le-ltb lent rows room, crossed, sym is ∙ h)
 
-          pub way_at : (price : Cents) → c ≡ choice.At price → At price ≡ way_of accepted s b lent
+          pub way_at : (price : Cents) → c ≡ Some price → At price ≡ way_of accepted s b lent
           unfolding way_of way_refusal pick is_not ◌and◌ choice_in
           way_at price h = rw (set, unopened, le-ltb lent rows room, crossed, sym is ∙ h)
 

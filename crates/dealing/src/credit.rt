@@ -13,9 +13,9 @@ fn credit_owner(t: Tally, side: u32, quantity: u32) -> Tally
     ensures { result ≡ owner_credit t side quantity }
 {
     if side == BUY {
-        added(t, 0, quantity as u64, 0)
+        added(t, 0, u64::from(quantity), 0)
     } else {
-        added(t, 0, 0, quantity as u64)
+        added(t, 0, 0, u64::from(quantity))
     }
 }
 
@@ -27,9 +27,7 @@ pub(crate) fn credit_row(tallies: Tallies, side: u32, owner: u32, quantity: u32)
     let mut after = tallies;
     if 0 < quantity {
         let who = owner as usize;
-        let t = after[who];
-        let u = credit_owner(t, side, quantity);
-        after[who] = u;
+        after[who] = credit_owner(after[who], side, quantity);
     }
     after
 }
@@ -41,16 +39,12 @@ pub fn credit(tallies: Tallies, sides: &Column, owners: &Column, traded: &Column
     ensures { result ≡ credited tallies (found sides) (found owners) (found traded) }
 {
     let mut after = tallies;
-    let mut i: usize = 0;
-    while i < ROWS {
+    for i in 0..ROWS {
         let quantity = traded[i];
         if 0 < quantity {
             let who = owners[i] as usize;
-            let t = after[who];
-            let u = credit_owner(t, sides[i], quantity);
-            after[who] = u;
+            after[who] = credit_owner(after[who], sides[i], quantity);
         }
-        i += 1;
     }
     after
 }

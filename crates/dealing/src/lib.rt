@@ -8,7 +8,9 @@ pub mod deal;
 pub mod open;
 mod settle;
 
+use entry::refusal::TurnDown;
 use entry::{Away, Terms};
+use judge::outcome::Disposition;
 use tally::Tallies;
 use units::Contracts;
 
@@ -20,13 +22,13 @@ pub struct Series {
     pub opened: bool,
 }
 
-// What came of an entry: it is turned down by a number; or cancels the order of that number; or is accepted as an order
-// of that number, with the contracts filled, its disposition, and how many fill records it wrote.
+// What came of an entry: it is turned down for a reason; or cancels the order of that number; or is accepted as an
+// order of that number, with the contracts filled, its disposition, and how many fill records it wrote.
 #[derive(Clone, Copy)]
 pub enum Came {
-    TurnedDown(u32),
+    TurnedDown(TurnDown),
     Cancelled(u32),
-    Accepted(u32, Contracts, u32, usize),
+    Accepted(u32, Contracts, Disposition, usize),
 }
 
 // The tallies that an entry leaves, and what came of it.

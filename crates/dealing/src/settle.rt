@@ -1,17 +1,15 @@
 // What an order that trades makes of the book, the records and the tallies, before what is left of it is disposed of.
 ghost use Rattle.std.specs.Prelude.{◌≡◌};
-ghost use Rattle.book.specs.Lent.{given_sizing, before_sizing, after_sizing};
+ghost use Rattle.book.specs.Lent.{book_in};
 ghost use Rattle.book.specs.Trading.{after_trade, trade_written};
 ghost use Rattle.dealing.specs.Settle.{other_side, opposite, Settles, settled_of};
 ghost use Rattle.dealing.specs.Reach.{Quoted, out_of_reach};
 
 use crate::credit::{credit, credit_row};
-use book::Records;
-use book::trading::trade;
+use book::{Book, Records};
 use entry::{Entry, Quotes};
-use rows::{BUY, Column, SELL};
+use rows::{BUY, ROWS, SELL};
 use tally::Tallies;
-use units::words::either;
 use units::{Cents, Contracts};
 
 // The tallies after the trade, contracts filled, and how many fill records were written.
@@ -37,49 +35,32 @@ fn settle(
     t: usize,
     e: Entry,
     bound: Cents,
-    sides: &Column,
-    prices: &Column,
-    sizes: &mut Column,
-    owners: &Column,
-    numbers: &Column,
+    book: &mut Book,
     records: &mut Records,
 ) -> Settled
-    requires { Settles tallies t e (given_sizing sides prices sizes owners numbers) records.old }
-    ensures numbers_value { after_sizing sides prices sizes owners numbers
-        ≡ after_trade (before_sizing sides prices sizes owners numbers) (opposite e) bound.0 e.size.0 allocation }
+    requires { Settles tallies t e (book_in book.old) records.old }
+    ensures numbers_value { book_in book.new
+        ≡ after_trade (book_in book.old) (opposite e) bound.0 e.size.0 allocation }
     ensures records_after { records.new
-        ≡ trade_written (before_sizing sides prices sizes owners numbers) (opposite e) bound.0 e.size.0 allocation records.old }
-    ensures value { result ≡ settled_of tallies t e (before_sizing sides prices sizes owners numbers) bound.0 allocation }
+        ≡ trade_written (book_in book.old) (opposite e) bound.0 e.size.0 allocation records.old }
+    ensures value { result ≡ settled_of tallies t e (book_in book.old) bound.0 allocation }
 {
-    let mut shared = [0u32; 216];
+    let mut shared = [0; ROWS];
     let side = other_side(e.side);
-    let size = e.size;
-    let done = trade(
-        allocation,
-        side,
-        bound,
-        size,
-        sides,
-        prices,
-        sizes,
-        owners,
-        numbers,
-        &mut shared,
-        records,
-    );
+    let done = book.trade(allocation, side, bound, e.size, &mut shared, records);
     let filled = done.filled;
     if filled.0 == 0 {
         return Settled {
-            tallies: tallies,
-            filled: filled,
+            tallies,
+            filled,
             fills: done.fills,
         };
     }
     let own = credit_row(tallies, e.side, t as u32, filled.0);
-    let all = credit(own, sides, owners, &shared);
+    let all = credit(own, &book.sides, &book.owners, &shared);
     Settled {
         tallies: all,
-        filled: filled,
+        filled,
         fills: done.fills,
     }
 }
@@ -89,9 +70,9 @@ fn out_of_reach(side: u32, bound: Cents, q: Quotes) -> bool
     ensures { result ≡ out_of_reach side bound.0 q }
 {
     if side == BUY {
-        either(q.nbo.0 == 0, bound.0 < q.nbo.0)
+        q.nbo.0 == 0 || bound.0 < q.nbo.0
     } else {
-        either(q.nbb.0 == 0, q.nbb.0 < bound.0)
+        q.nbb.0 == 0 || q.nbb.0 < bound.0
     }
 }
 
@@ -104,29 +85,23 @@ pub(crate) fn settle_in_reach(
     e: Entry,
     bound: Cents,
     quotes: Quotes,
-    sides: &Column,
-    prices: &Column,
-    sizes: &mut Column,
-    owners: &Column,
-    numbers: &Column,
+    book: &mut Book,
     records: &mut Records,
 ) -> Settled
-    requires settles { Settles tallies t e (given_sizing sides prices sizes owners numbers) records.old }
-    requires quoted { Quoted (given_sizing sides prices sizes owners numbers) quotes }
-    ensures numbers_value { after_sizing sides prices sizes owners numbers
-        ≡ after_trade (before_sizing sides prices sizes owners numbers) (opposite e) bound.0 e.size.0 allocation }
+    requires settles { Settles tallies t e (book_in book.old) records.old }
+    requires quoted { Quoted (book_in book.old) quotes }
+    ensures numbers_value { book_in book.new
+        ≡ after_trade (book_in book.old) (opposite e) bound.0 e.size.0 allocation }
     ensures records_after { records.new
-        ≡ trade_written (before_sizing sides prices sizes owners numbers) (opposite e) bound.0 e.size.0 allocation records.old }
-    ensures value { result ≡ settled_of tallies t e (before_sizing sides prices sizes owners numbers) bound.0 allocation }
+        ≡ trade_written (book_in book.old) (opposite e) bound.0 e.size.0 allocation records.old }
+    ensures value { result ≡ settled_of tallies t e (book_in book.old) bound.0 allocation }
 {
     if out_of_reach(e.side, bound, quotes) {
         return Settled {
-            tallies: tallies,
+            tallies,
             filled: Contracts(0),
             fills: 0,
         };
     }
-    settle(
-        tallies, allocation, t, e, bound, sides, prices, sizes, owners, numbers, records,
-    )
+    settle(tallies, allocation, t, e, bound, book, records)
 }

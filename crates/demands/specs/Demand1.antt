@@ -8,7 +8,7 @@ use Rattle.units.specs.Units.{tenants}
 use Rattle.lanes.specs.Rotation.{on}
 use Rattle.lanes.specs.Waiting.{waiting}
 use Rattle.tally.specs.Tallies.{counted}
-use Rattle.session.specs.declared.TurnAnswer.TheVariants.{TurnedDown}
+use Rattle.session.specs.TurnAnswer.{TurnedDown}
 use Rattle.session.specs.Market.{Market}
 use Rattle.demands.specs.Runs.{Call, turned, lent_to, step, is_refused, head_entry, Reached}
 

@@ -1,14 +1,13 @@
 -- Demand 1, by how each call can come out.
-use Rattle.std.specs.Prelude.{◌≡◌, refl, true, List, ℕ}
+use Rattle.std.specs.Prelude.{◌≡◌, refl, true, List, ℕ, Some}
 use Rattle.std.proofs.Common.{sym, ap, subst, arith, ltb-true}
 use Rattle.std.proofs.lemmas.Bool.{false≢true}
 use Rattle.units.specs.Tests.{holds_not_fails}
 use Rattle.entry.specs.declared.Settings.{Settings}
-use Rattle.lanes.specs.declared.Served.TheVariants.{Lane}
 use Rattle.lanes.specs.Ring.{taken}
 use Rattle.lanes.specs.Rotation.{served}
 use Rattle.lanes.specs.Waiting.{take_own, take_other}
-use Rattle.session.specs.declared.TurnAnswer.TheVariants as answer
+use Rattle.session.specs.TurnAnswer as answer
 use Rattle.session.specs.Market.{Market, Called}
 use Rattle.session.specs.Turn.{TurnDone}
 use Rattle.session.specs.Open.{OpenDone, open_quiet, open_at}
@@ -49,7 +48,7 @@ nothing_changed m (submit tenant count ns) r = record { market = call_refused m 
 nothing_changed m (turn lent was) r = let (market, records) = turn_refused m lent was (TurnCases.outcome m lent was) r in record { market = market; records = records }
 nothing_changed m (opening lent was) r = let (market, records) = open_refused m lent was (OpenCases.outcome m lent was) r in record { market = market; records = records }
 
-only_taken : (m : Market) → Shaped m → (t : ℕ) → served m.session.lanes ≡ Lane t → OnlyTurnTaken m t (once_taken m t)
+only_taken : (m : Market) → Shaped m → (t : ℕ) → served m.session.lanes ≡ Some t → OnlyTurnTaken m t (once_taken m t)
 only_taken m shaped t is =
     let first = first_busy m t shaped.place is in
     record {

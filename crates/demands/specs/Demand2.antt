@@ -1,10 +1,9 @@
 -- Demand 2, as statements: each call answers by the rules of document 01, of which those for one order stand in Rules.
 -- The proofs stand in Demand2Refusals, Demand2Stores, RulesProof, Demand2Turn, Demand2Fills and Demand2Opening.
 -- Demand2Rows goes on with what a turn leaves row by row, and Demand2Whole has all of them.
-use Rattle.std.specs.Prelude.{◌≡◌, ◌↔◌, ◌⊎◌, true, false, List, [], ◌∷◌, ◌++◌, ℕ, ◌+◌, ◌-◌, ◌*◌, ◌/◌, ◌≤◌, ◌<◌, min, length, take}
+use Rattle.std.specs.Prelude.{◌≡◌, ◌↔◌, ◌⊎◌, true, false, List, [], ◌∷◌, ◌++◌, ℕ, ◌+◌, ◌-◌, ◌*◌, ◌/◌, ◌≤◌, ◌<◌, min, length, take, Some}
 use Rattle.units.specs.declared.Cents.{Cents}
 use Rattle.units.specs.declared.grid.Grid.{Grid}
-use Rattle.units.specs.declared.grid.Chosen.TheVariants.{One}
 use Rattle.units.specs.Units.{tenants}
 use Rattle.units.specs.Grid.{grid_of}
 use Rattle.units.specs.Places.{at}
@@ -26,7 +25,6 @@ use Rattle.entry.specs.Entry.{is_limit, is_cancel, is_buy, is_sell}
 use Rattle.entry.specs.Words.{WellFormed}
 use Rattle.checks.specs.TurnDown.{might_rest}
 use Rattle.judge.specs.Bound.{bound_of}
-use Rattle.lanes.specs.declared.Served.TheVariants.{Lane}
 use Rattle.lanes.specs.Ring.{entry_at, len_of, taken as lane_taken}
 use Rattle.lanes.specs.Rotation.{waits, served}
 use Rattle.lanes.specs.Runs.{FirstBusy}
@@ -165,7 +163,7 @@ pub record AcceptedStores : Type 0 where
   -- accepted settings empty book, lanes, tallies and away quote, put the rotation at tenant 0, the next number at 1 and
   -- the series unopened
   pub settings : (m : Market) (s : Settings) → (settings_of m s).code ≡ 0
-      → (g : Grid) × (grid_of s.grid ≡ One g) × ((settings_of m s).market ≡ reset_on m (terms_of s g))
+      → (g : Grid) × (grid_of s.grid ≡ Some g) × ((settings_of m s).market ≡ reset_on m (terms_of s g))
   -- an accepted away replaces the present bid and offer
   pub away : (m : Market) (bid offer : Cents) → (away_of m bid offer).code ≡ 0
       → (away_of m bid offer).market ≡ market_of (with_away m.session bid offer) m.book m.entries
@@ -183,7 +181,7 @@ pub record AcceptedStores : Type 0 where
 -- the turn is taken, and is that of tenant t's lane
 pub record TakenBy (m : Market) (lent t : ℕ) : Type 0 where
   pub not_refused : NoneOf (turn_rules m lent)
-  pub lane : served m.session.lanes ≡ Lane t
+  pub lane : served m.session.lanes ≡ Some t
 
 -- an order is accepted with the next number
 pub record AcceptedBy (m : Market) (t : ℕ) (p : Printed) : Type 0 where

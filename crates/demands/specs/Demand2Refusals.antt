@@ -1,6 +1,6 @@
 -- Demand 2's refusals: each call's list of tests reads as its rules.
 use mathlib.Core.Logic.Iff
-use Rattle.std.specs.Prelude.{◌≡◌, ◌↔◌, ◌⊎◌, Bool, true, false, cond, List, ℕ, ◌*◌, ◌%◌, ◌≤◌, ◌<◌, eqb, length}
+use Rattle.std.specs.Prelude.{◌≡◌, ◌↔◌, ◌⊎◌, Bool, true, false, cond, List, ℕ, ◌*◌, ◌%◌, ◌≤◌, ◌<◌, eqb, length, None, Option, Some}
 use Rattle.std.proofs.Math.Path.{refl, sym, ap}
 use Rattle.std.proofs.Common.{◌∙◌, inl, inr, true≢false}
 use Rattle.std.proofs.Math.Logic.{⊎_map}
@@ -10,8 +10,6 @@ use borrow.Author.Tests.{lt-ltb, le-ltb, ltb-true, ltb-false, le-leb, leb-true, 
 use Rattle.units.specs.Units.{tenants}
 use Rattle.units.specs.declared.Cents.{Cents}
 use Rattle.units.specs.declared.grid.Grid.{Grid}
-use Rattle.units.specs.declared.grid.Chosen.{Chosen}
-use Rattle.units.specs.declared.grid.Chosen.TheVariants.{One, NoSuch}
 use Rattle.units.specs.Grid.{grid_of, stepping}
 use Rattle.units.specs.Says.{not_says, same_says, less_says, most_says, and_says, or_says}
 use Rattle.units.specs.Tests.{◌and◌, is_not, and_true, and_holds, or_true, not_holds, not_fails, fails, holds_not_fails, order, less, equal, more}
@@ -31,7 +29,6 @@ use Rattle.entry.specs.Settings.{series_in_range, protections_in_range, prints_i
 use Rattle.entry.specs.Entry.{malformed}
 use Rattle.entry.specs.Words.{WellFormed, malformed_says}
 use Rattle.lanes.specs.declared.Lanes.{Lanes}
-use Rattle.lanes.specs.declared.Served.TheVariants.{Lane}
 use Rattle.lanes.specs.Ring.{entry_at, len_of}
 use Rattle.lanes.specs.Rotation.{on, waits, distance, served}
 use Rattle.lanes.specs.Runs.{ahead}
@@ -40,7 +37,7 @@ use Rattle.session.specs.Market.{Market, Called}
 use Rattle.session.specs.Settings.{too_high, away_cases, away_refusal, away_of}
 use Rattle.lanes.specs.Bulk.{well_counted, some_malformed}
 use Rattle.session.specs.Submit.{submit_cases, submit_refusal, submit_of}
-use Rattle.session.specs.declared.TurnAnswer.{TurnAnswer}
+use Rattle.session.specs.TurnAnswer.{TurnAnswer}
 use Rattle.session.specs.Turn.{TurnDone, refused as refused_by, printed, nobody, turn_cases, turn_refusal}
 use Rattle.dealing.specs.Open.{choice_in, way_refusal}
 use Rattle.session.specs.Open.{OpenDone, Line, refused_by as open_refused_by, printed as printed_open, sources_of, choice_of, open_cases, open_refusal, open_quiet, open_at}
@@ -145,7 +142,7 @@ module _ (m : Market) (lent : ℕ) where
   turn_taken = none_ruled 0 (turn_cases m.session lent) (turn_rules m lent) refl turn_reads
 
 module _ (m : Market) (lent : ℕ) (was : List ℕ) where
-  turn_stands : (a : TurnAnswer) (t : ℕ) → lane_in (turned a) ≡ Lane t → (n : ℕ) → printed a ≡ refused_by n → ⊥
+  turn_stands : (a : TurnAnswer) (t : ℕ) → lane_in (turned a) ≡ Some t → (n : ℕ) → printed a ≡ refused_by n → ⊥
   turn_stands a t h n x = true≢false (ap nobody (sym (ap lane_told x) ∙ (sym (lane_told_lem a) ∙ h)))
 
   turn_comes : {d : TurnDone} → TurnCases.Outcome m lent was d
@@ -238,15 +235,15 @@ module _ (s : Settings) where
     outside : code ≡ 7 → (InList s → ⊥) → Answer code
 
   -- a number from 1 to 3 is that of a grid
-  grid_says : (n : ℕ) → ((g : Grid) × (grid_of n ≡ One g)) ↔ ((1 ≤ n) × (n ≤ 3))
+  grid_says : (n : ℕ) → ((g : Grid) × (grid_of n ≡ Some g)) ↔ ((1 ≤ n) × (n ≤ 3))
   grid_says n = go (eqb n 1) (eqb n 2) (eqb n 3) refl refl refl
     where
-      some : Chosen → ℕ
-      some (One g) = 1
-      some NoSuch = 0
+      some : (Option Grid) → ℕ
+      some (Some g) = 1
+      some None = 0
 
       go : (a b c : Bool) → eqb n 1 ≡ a → eqb n 2 ≡ b → eqb n 3 ≡ c
-          → ((g : Grid) × (cond a (One (stepping 1 1)) (cond b (One (stepping 1 5)) (cond c (One (stepping 5 10)) NoSuch)) ≡ One g)) ↔ ((1 ≤ n) × (n ≤ 3))
+          → ((g : Grid) × (cond a (Some (stepping 1 1)) (cond b (Some (stepping 1 5)) (cond c (Some (stepping 5 10)) None)) ≡ Some g)) ↔ ((1 ≤ n) × (n ≤ 3))
       go true b c x y z = (λ _. (omega (arith, eqb-true n 1 x), omega (arith, eqb-true n 1 x)), λ _. (stepping 1 1, refl))
       go false true c x y z = (λ _. (omega (arith, eqb-true n 2 y), omega (arith, eqb-true n 2 y)), λ _. (stepping 1 5, refl))
       go false false true x y z = (λ _. (omega (arith, eqb-true n 3 z), omega (arith, eqb-true n 3 z)), λ _. (stepping 5 10, refl))

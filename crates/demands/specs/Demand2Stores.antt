@@ -1,8 +1,7 @@
 -- Demand 2's accepted settings, aways and submits: what each stores.
-use Rattle.std.specs.Prelude.{◌≡◌, refl, List, ◌++◌, ℕ}
+use Rattle.std.specs.Prelude.{◌≡◌, refl, List, ◌++◌, ℕ, Some}
 use Rattle.std.proofs.Common.{sym, ◌∙◌, arith}
 use Rattle.units.specs.declared.grid.Grid.{Grid}
-use Rattle.units.specs.declared.grid.Chosen.TheVariants.{One}
 use Rattle.units.specs.Grid.{grid_of}
 use Rattle.entry.specs.declared.Settings.{Settings}
 use Rattle.entry.specs.Settings.{terms_of}
@@ -17,7 +16,7 @@ use Rattle.demands.specs.Outcomes.{SetCame, set_came, call_code, call_next, away
 use Rattle.demands.specs.Demand2.{waiting_in, AcceptedStores}
 
 settings_stores : (m : Market) (s : Settings) {d : Called} → SetCame m s d → d.code ≡ 0
-    → (g : Grid) × (grid_of s.grid ≡ One g) × (d.market ≡ reset_on m (terms_of s g))
+    → (g : Grid) × (grid_of s.grid ≡ Some g) × (d.market ≡ reset_on m (terms_of s g))
 settings_stores m s (outcomes.refused none) h = absurd (omega arith)
 settings_stores m s (outcomes.accepted g e k) h = (g, e, refl)
 

@@ -4,10 +4,8 @@
 --
 -- The market before each call of a run is reached itself (`reached-on`), so that a run from a reached market is any
 -- part of any run.
-use Rattle.std.specs.Prelude.{◌≡◌, true, false, List, [], ◌∷◌, ℕ, ◌+◌, ◌/◌, ◌≤◌, ◌<◌}
+use Rattle.std.specs.Prelude.{◌≡◌, true, false, List, [], ◌∷◌, ℕ, ◌+◌, ◌/◌, ◌≤◌, ◌<◌, None, Option, Some}
 use Rattle.units.specs.Units.{tenants}
-use Rattle.lanes.specs.declared.Served.{Served}
-use Rattle.lanes.specs.declared.Served.TheVariants.{Lane, Nobody}
 use Rattle.lanes.specs.Rotation.{waits}
 use Rattle.lanes.specs.Runs.{counts_for}
 use Rattle.session.specs.Market.{Market}
@@ -15,9 +13,9 @@ use Rattle.session.specs.Turn.{nobody}
 use Rattle.demands.specs.Runs.{Call, Answer, step, answers, lane_in, resets, Reached}
 
 -- 1 for a taken turn, else 0
-abbrev pub takes : Served → ℕ
-takes (Lane t) = 1
-takes Nobody = 0
+abbrev pub takes : (Option ℕ) → ℕ
+takes (Some t) = 1
+takes None = 0
 
 -- how many turns were taken, by the answers of a run,
 abbrev pub turns_taken : List Answer → ℕ

@@ -1,12 +1,10 @@
 -- Demand 3: each call moves the rotation as a run of turns has it or leaves it, so that the rotation's fairness is that
 -- of the calls.
-use Rattle.std.specs.Prelude.{◌≡◌, Bool, true, false, List, [], ◌∷◌, ℕ, ◌+◌, length}
+use Rattle.std.specs.Prelude.{◌≡◌, Bool, true, false, List, [], ◌∷◌, ℕ, ◌+◌, length, None, Option, Some}
 use Rattle.std.proofs.Math.Path.{refl}
 use Rattle.std.proofs.Common.{true≢false, arith}
 use Rattle.entry.specs.declared.Settings.{Settings}
 use Rattle.lanes.specs.declared.Lanes.{Lanes}
-use Rattle.lanes.specs.declared.Served.{Served}
-use Rattle.lanes.specs.declared.Served.TheVariants.{Lane, Nobody}
 use Rattle.lanes.specs.Ring.{joined, taken}
 use Rattle.lanes.specs.Rotation.{on, waits, served}
 use Rattle.lanes.specs.Runs.{counts_for, turns, Always}
@@ -25,9 +23,9 @@ use Rattle.demands.specs.Demand3.{takes, turns_taken, turns_of, NoReset, WaitsBe
 
 -- lanes before and after a call: a taken turn is that of the lane served and moves the place past it, anything else
 -- leaves the place
-abbrev Moves : Lanes → Lanes → Served → Type 0
-Moves l next (Lane t) = (served l ≡ Lane t) × (next.place ≡ on t 1)
-Moves l next Nobody = next.place ≡ l.place
+abbrev Moves : Lanes → Lanes → (Option ℕ) → Type 0
+Moves l next (Some t) = (served l ≡ Some t) × (next.place ≡ on t 1)
+Moves l next None = next.place ≡ l.place
 
 set_moves : (m : Market) (given : Settings) {d : Called} → resets (settings given) (coded d.code) ≡ false → SetCame m given d
     → d.market.session.lanes.place ≡ m.session.lanes.place
@@ -61,9 +59,9 @@ step_moves m (turn lent was) r = turn_moves m lent was (TurnCases.outcome m lent
 step_moves m (opening lent was) r = open_moves m lent was (OpenCases.outcome m lent was)
 
 -- who waits before each taken turn
-abbrev with_turn : Served → (ℕ → Bool) → List (ℕ → Bool) → List (ℕ → Bool)
-with_turn (Lane t) busy run = busy ∷ run
-with_turn Nobody busy run = run
+abbrev with_turn : (Option ℕ) → (ℕ → Bool) → List (ℕ → Bool) → List (ℕ → Bool)
+with_turn (Some t) busy run = busy ∷ run
+with_turn None busy run = run
 
 abbrev waits_at : Market → List Call → List (ℕ → Bool)
 waits_at m [] = []
@@ -71,11 +69,11 @@ waits_at m (c ∷ cs) = with_turn (lane_in (step m c).answer) (waits m.session.l
 
 -- one call's part of a tenant's turns
 turns_step :
-    (u : ℕ) (l next : Lanes) (s : Served) (run : List (ℕ → Bool)) (rest : ℕ) → Moves l next s → turns u next.place run ≡ rest →
+    (u : ℕ) (l next : Lanes) (s : (Option ℕ)) (run : List (ℕ → Bool)) (rest : ℕ) → Moves l next s → turns u next.place run ≡ rest →
     turns u l.place (with_turn s (waits l) run) ≡ counts_for u s + rest
 unfolding turns served
-turns_step u l next (Lane t) run rest (is, at) e = rw (is, ← at, e)
-turns_step u l next Nobody run rest at e = rw (← at, e) (omega arith)
+turns_step u l next (Some t) run rest (is, at) e = rw (is, ← at, e)
+turns_step u l next None run rest at e = rw (← at, e) (omega arith)
 
 turns_told : (u : ℕ) (m : Market) (cs : List Call) → NoReset m cs → turns u m.session.lanes.place (waits_at m cs) ≡ turns_of u (answers m cs)
 turns_told u m [] none = unfold turns in refl
@@ -83,18 +81,18 @@ turns_told u m (c ∷ cs) (r, none) =
     turns_step u m.session.lanes (step m c).market.session.lanes (lane_in (step m c).answer) (waits_at (step m c).market cs) _ (step_moves m c r)
     (turns_told u (step m c).market cs none)
 
-taken_step : (s : Served) (busy : ℕ → Bool) (run : List (ℕ → Bool)) (rest : ℕ) → length run ≡ rest → length (with_turn s busy run) ≡ takes s + rest
-taken_step (Lane t) busy run rest e = omega arith
-taken_step Nobody busy run rest e = omega arith
+taken_step : (s : (Option ℕ)) (busy : ℕ → Bool) (run : List (ℕ → Bool)) (rest : ℕ) → length run ≡ rest → length (with_turn s busy run) ≡ takes s + rest
+taken_step (Some t) busy run rest e = omega arith
+taken_step None busy run rest e = omega arith
 
 taken_told : (m : Market) (cs : List Call) → length (waits_at m cs) ≡ turns_taken (answers m cs)
 taken_told m [] = refl
 taken_told m (c ∷ cs) = taken_step (lane_in (step m c).answer) _ (waits_at (step m c).market cs) _ (taken_told (step m c).market cs)
 
-always_step : (t : ℕ) (s : Served) (busy : ℕ → Bool) (run : List (ℕ → Bool)) → (nobody s ≡ false → busy t ≡ true) → Always t run
+always_step : (t : ℕ) (s : (Option ℕ)) (busy : ℕ → Bool) (run : List (ℕ → Bool)) → (nobody s ≡ false → busy t ≡ true) → Always t run
     → Always t (with_turn s busy run)
-always_step t (Lane u) busy run h rest = (h refl, rest)
-always_step t Nobody busy run h rest = rest
+always_step t (Some u) busy run h rest = (h refl, rest)
+always_step t None busy run h rest = rest
 
 always : (t : ℕ) (m : Market) (cs : List Call) → WaitsBeforeEach t m cs → Always t (waits_at m cs)
 always t m [] w = w

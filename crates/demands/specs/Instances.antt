@@ -1,16 +1,15 @@
 -- The demands are about something: for each theorem a market that calls lead to from a fresh one of 216 rows, what is
 -- answered there, and what the theorem says of it. One record with a field for each, and one value of it.
-use Rattle.std.specs.Prelude.{◌≡◌, refl, ◌⊎◌, true, List, [], ◌∷◌, ◌++◌, ℕ, ◌≤◌, ◌<◌}
+use Rattle.std.specs.Prelude.{◌≡◌, refl, ◌⊎◌, true, List, [], ◌∷◌, ◌++◌, ℕ, ◌≤◌, ◌<◌, Some}
 use Rattle.std.proofs.Common.{sym, ap, ◌∙◌, subst, arith}
 use Rattle.units.specs.Units.{tenants}
 use Rattle.units.specs.Sums.{sum_to}
 use Rattle.units.specs.Places.{at}
 use Rattle.rows.specs.Rows.{rows}
 use Rattle.book.specs.Book.{price_at}
-use Rattle.lanes.specs.declared.Served.TheVariants.{Lane}
 use Rattle.lanes.specs.Ring.{len_of}
 use Rattle.lanes.specs.Waiting.{given_in}
-use Rattle.session.specs.declared.TurnAnswer.{TurnAnswer}
+use Rattle.session.specs.TurnAnswer.{TurnAnswer}
 use Rattle.tally.specs.declared.Tally.{Tally}
 use Rattle.tally.specs.Tallies.{tally_at, bought_in_all, sold_in_all}
 use Rattle.session.specs.Market.{Market}
@@ -119,7 +118,7 @@ busy_reached = reached_on fresh (start_reached fresh fresh_starts) filling
 -- ---- what is computed of them, as the theorems ask for it
 
 -- the turn is that of the tenant named in its answer
-taken : (m : Market) (t : ℕ) {a : TurnAnswer} → (turn_of m rows blank).answer ≡ a → lane_in (turned a) ≡ Lane t → TakenBy m rows t
+taken : (m : Market) (t : ℕ) {a : TurnAnswer} → (turn_of m rows blank).answer ≡ a → lane_in (turned a) ≡ Some t → TakenBy m rows t
 taken m t e lane = taken_by m rows t (named m rows blank t (ap (λ a. lane_in (turned a)) e ∙ lane))
 
 nothing_changes : NothingChanged idle takes

@@ -1,12 +1,13 @@
 -- Markets for the examples: a fresh one of 216 rows, and small ones with given terms and one entry that waits.
 use Rattle.std.specs.Prelude.{Bool, true, false, ◌∷◌, ℕ, replicate}
-use Rattle.units.specs.Units.{tenants, cents}
+use Rattle.units.specs.Units.{cents}
 use Rattle.units.specs.Grid.{stepping}
 use Rattle.units.specs.declared.grid.Grid.{Grid}
 use Rattle.tally.specs.Tallies.{no_tallies}
 use Rattle.entry.specs.declared.Away.{Away}
 use Rattle.entry.specs.declared.Settings.{Settings}
 use Rattle.entry.specs.declared.Terms.{Terms}
+use Rattle.lanes.specs.Ring.{lane_of}
 use Rattle.session.specs.declared.Session.{Session}
 use Rattle.session.specs.Market.{Market}
 use Rattle.replay.specs.Output.{new_market}
@@ -65,7 +66,7 @@ session_on opened t away next = record {
   terms = t;
   away = away;
   opened = opened;
-  lanes = record { heads = replicate tenants 0; lens = 1 ∷ replicate 8 0; place = 0 };
+  lanes = record { lanes = lane_of 0 1 ∷ replicate 8 (lane_of 0 0); place = 0 };
   next = next;
   tallies = no_tallies;
 }

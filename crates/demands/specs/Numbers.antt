@@ -4,7 +4,7 @@
 use Rattle.std.specs.Prelude.{◌≡◌, ◌↔◌, ◌⊎◌, true, List, [], ◌∷◌, ◌++◌, ℕ, ◌+◌, ◌≤◌, ◌<◌, length}
 use Rattle.units.specs.Places.{table}
 use Rattle.entry.specs.Entry.{is_cancel}
-use Rattle.session.specs.declared.TurnAnswer.TheVariants as turn_answer
+use Rattle.session.specs.TurnAnswer as turn_answer
 use Rattle.session.specs.Market.{Market}
 use Rattle.session.specs.Turn.{turned_down_by}
 use Rattle.demands.specs.Runs.{Call, Answer, coded, turned, opened, step, after, since, head_entry, Start}

@@ -1,13 +1,11 @@
 -- How settings, away and submit come out: refused with everything as it was, or accepted. A turn's outcomes stand in
 -- TurnCases, an opening's in OpenCases.
-use Rattle.std.specs.Prelude.{◌≡◌, Bool, true, false, List, ℕ, ◌<◌, ltb}
+use Rattle.std.specs.Prelude.{◌≡◌, Bool, true, false, List, ℕ, ◌<◌, ltb, None, Option, Some}
 use Rattle.std.proofs.Math.Path.{refl}
 use Rattle.std.proofs.Common.{sym, ap, ◌∙◌, arith, ltb-true, ltb-false}
 use Rattle.std.proofs.Math.Bool.{true≢false}
 use Rattle.units.specs.declared.Cents.{Cents}
 use Rattle.units.specs.declared.grid.Grid.{Grid}
-use Rattle.units.specs.declared.grid.Chosen.{Chosen}
-use Rattle.units.specs.declared.grid.Chosen.TheVariants.{One, NoSuch}
 use Rattle.units.specs.Grid.{grid_of}
 use Rattle.units.specs.Tests.{pick, picked, holds_not_fails}
 use Rattle.entry.specs.declared.Settings.{Settings}
@@ -19,20 +17,20 @@ use Rattle.session.specs.Submit.{with_entries, submit_refusal, submit_of}
 -- settings: accepted on the grid that they name with every other value in its range, else refused by 7
 module _ (m : Market) (given : Settings) where
   pub data SetCame : Called → Type 0 where
-    refused : ((g : Grid) → grid_of given.grid ≡ One g → in_range given ≡ true → ⊥) → SetCame (record { market = m; code = 7 })
-    accepted : (g : Grid) → grid_of given.grid ≡ One g → in_range given ≡ true → SetCame (record { market = reset_on m (terms_of given g); code = 0 })
+    refused : ((g : Grid) → grid_of given.grid ≡ Some g → in_range given ≡ true → ⊥) → SetCame (record { market = m; code = 7 })
+    accepted : (g : Grid) → grid_of given.grid ≡ Some g → in_range given ≡ true → SetCame (record { market = reset_on m (terms_of given g); code = 0 })
 
-  some : Chosen → Bool
-  some (One g) = true
-  some NoSuch = false
+  some : (Option Grid) → Bool
+  some (Some g) = true
+  some None = false
 
   pub set_came : SetCame (settings_of m given)
   unfolding settings_of some
   set_came = go (grid_of given.grid) refl
     where
-      go : (c : Chosen) → grid_of given.grid ≡ c → SetCame (on_grid_of m given c)
-      go NoSuch e = refused (λ g is _. true≢false (ap some (sym is ∙ e)))
-      go (One g) e = picked SetCame (in_range given) _ _ (accepted g e) (λ h. refused (λ _ _ k. holds_not_fails k h))
+      go : (c : (Option Grid)) → grid_of given.grid ≡ c → SetCame (on_grid_of m given c)
+      go None e = refused (λ g is _. true≢false (ap some (sym is ∙ e)))
+      go (Some g) e = picked SetCame (in_range given) _ _ (accepted g e) (λ h. refused (λ _ _ k. holds_not_fails k h))
 
 -- away and submit: refused by r, or the market that follows
 module _ (m next : Market) (r : ℕ) where

@@ -29,7 +29,7 @@ use Rattle.lanes.specs.Bulk.{well_counted, some_malformed}
 use Rattle.price.specs.Price.{usable, midpoint, valid, first_valid, price_of}
 use Rattle.dealing.specs.Deal.{quotes_on, rests, cancels, ordered, dealt}
 use Rattle.dealing.specs.Open.{choice_in, way_refusal}
-use Rattle.session.specs.declared.TurnAnswer.TheVariants as turn_answer
+use Rattle.session.specs.TurnAnswer as turn_answer
 use Rattle.session.specs.Market.{Market}
 use Rattle.session.specs.Settings.{settings_of, too_high, away_refusal, away_of}
 use Rattle.session.specs.Submit.{submit_refusal, submit_of}

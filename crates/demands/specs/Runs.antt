@@ -1,17 +1,15 @@
 -- Runs of calls: what a call is, what it makes of a market and answers, and which markets are reached.
-use Rattle.std.specs.Prelude.{◌≡◌, Bool, true, false, List, [], ◌∷◌, ℕ, ltb, eqb, length}
+use Rattle.std.specs.Prelude.{◌≡◌, Bool, true, false, List, [], ◌∷◌, ℕ, ltb, eqb, length, None, Option, Some}
 use Rattle.units.specs.declared.Cents.{Cents}
 use Rattle.units.specs.Tests.{pick}
 use Rattle.rows.specs.Rows.{rows}
 use Rattle.entry.specs.declared.Entry.{Entry}
 use Rattle.entry.specs.declared.Settings.{Settings}
-use Rattle.lanes.specs.declared.Served.{Served}
-use Rattle.lanes.specs.declared.Served.TheVariants.{Lane, Nobody}
 use Rattle.lanes.specs.Ring.{waiting_at}
-use Rattle.session.specs.declared.TurnAnswer.{TurnAnswer}
-use Rattle.session.specs.declared.TurnAnswer.TheVariants as turn_answer
-use Rattle.session.specs.declared.OpenAnswer.{OpenAnswer}
-use Rattle.session.specs.declared.OpenAnswer.TheVariants as open_answer
+use Rattle.session.specs.TurnAnswer.{TurnAnswer}
+use Rattle.session.specs.TurnAnswer as turn_answer
+use Rattle.session.specs.OpenAnswer.{OpenAnswer}
+use Rattle.session.specs.OpenAnswer as open_answer
 use Rattle.session.specs.Market.{Market, Called}
 use Rattle.session.specs.Settings.{new_session, settings_of, away_of}
 use Rattle.session.specs.Submit.{submit_of}
@@ -87,13 +85,13 @@ is_refused (opened (open_answer.Refused code)) = true
 is_refused (opened (open_answer.AtPrice price volume fills)) = false
 
 -- whose turn the answer says was taken, turned down or not
-abbrev pub lane_in : Answer → Served
-lane_in (coded code) = Nobody
-lane_in (turned (turn_answer.Refused code)) = Nobody
-lane_in (turned (turn_answer.TurnedDown tenant code)) = Lane tenant
-lane_in (turned (turn_answer.Cancelled tenant number)) = Lane tenant
-lane_in (turned (turn_answer.Accepted tenant number filled disposition fills)) = Lane tenant
-lane_in (opened a) = Nobody
+abbrev pub lane_in : Answer → (Option ℕ)
+lane_in (coded code) = None
+lane_in (turned (turn_answer.Refused code)) = None
+lane_in (turned (turn_answer.TurnedDown tenant code)) = Some tenant
+lane_in (turned (turn_answer.Cancelled tenant number)) = Some tenant
+lane_in (turned (turn_answer.Accepted tenant number filled disposition fills)) = Some tenant
+lane_in (opened a) = None
 
 -- the entry at the head of tenant t's lane
 abbrev pub head_entry : Market → ℕ → Entry

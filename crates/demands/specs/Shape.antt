@@ -12,7 +12,9 @@ use Rattle.opening.specs.Opening.{after_opening}
 use Rattle.entry.specs.declared.Settings.{Settings}
 use Rattle.entry.specs.Settings.{in_range, terms_of}
 use Rattle.lanes.specs.declared.Lanes.{Lanes}
-use Rattle.lanes.specs.Ring.{depth, head_of, len_of, joined, taken}
+use Rattle.lanes.specs.Ring.{depth, heads, lens, head_of, len_of, joined, taken}
+use Rattle.lanes.specs.RingLaws.{heads_joined, lens_joined, heads_taken, lens_taken}
+use Rattle.lanes.specs.Marks.{empty_marked}
 use Rattle.tally.specs.declared.Tally.{Tally}
 use Rattle.tally.specs.Tallies as tallies
 use Rattle.tally.specs.TallyLaws.{added_length}
@@ -68,19 +70,17 @@ module _ (P : Market → Type 0) (m : Market) (keeps : Keeps P m) where
 
 pub record Shaped (m : Market) : Type 0 where
   pub places : m.book.places ≡ rows
-  pub heads_long : length m.session.lanes.heads ≡ tenants
-  pub lens_long : length m.session.lanes.lens ≡ tenants
+  pub heads_long : length (heads m.session.lanes) ≡ tenants
+  pub lens_long : length (lens m.session.lanes) ≡ tenants
   pub place : m.session.lanes.place < tenants
   pub tallies_long : length m.session.tallies ≡ tenants
 
 -- lanes of nine stay so
-taken_heads : (l : Lanes) (t : ℕ) → length (taken l t).heads ≡ length l.heads
-unfolding taken
-taken_heads l t = length-set l.heads t ((head_of l t + 1) % depth)
+taken_heads : (l : Lanes) (t : ℕ) → length (heads (taken l t)) ≡ length (heads l)
+taken_heads l t = ap length (heads_taken l t) ∙ length-set (heads l) t ((head_of l t + 1) % depth)
 
-taken_lens : (l : Lanes) (t : ℕ) → length (taken l t).lens ≡ length l.lens
-unfolding taken
-taken_lens l t = length-set l.lens t (len_of l t - 1)
+taken_lens : (l : Lanes) (t : ℕ) → length (lens (taken l t)) ≡ length (lens l)
+taken_lens l t = ap length (lens_taken l t) ∙ length-set (lens l) t (len_of l t - 1)
 
 taken_place : (l : Lanes) (t : ℕ) → (taken l t).place < tenants
 unfolding taken
@@ -92,8 +92,8 @@ shape_keeps m s = record {
   refused = s;
   reset = λ given g _. record {
     places = s.places;
-    heads_long = length-replicate {A = ℕ} tenants 0;
-    lens_long = length-replicate {A = ℕ} tenants 0;
+    heads_long = empty_marked.heads_long;
+    lens_long = empty_marked.lens_long;
     place = omega arith;
     tallies_long = length-replicate {A = Tally} tenants tallies.zero;
   };
@@ -106,8 +106,11 @@ shape_keeps m s = record {
   };
   joins = λ tenant count ns. record {
     places = s.places;
-    heads_long = s.heads_long;
-    lens_long = length-set m.session.lanes.lens tenant (len_of m.session.lanes tenant + count) ∙ s.lens_long;
+    heads_long = ap length (heads_joined m.session.lanes tenant count) ∙ s.heads_long;
+    lens_long =
+        ap length (lens_joined m.session.lanes tenant count)
+        ∙ length-set (lens m.session.lanes) tenant (len_of m.session.lanes tenant + count)
+        ∙ s.lens_long;
     place = s.place;
     tallies_long = s.tallies_long;
   };
@@ -134,8 +137,8 @@ step_shaped m c s = step_has Shaped m (shape_keeps m s) c
 pub start_shaped : (m : Market) → Start m → Shaped m
 start_shaped m s = record {
   places = s.places;
-  heads_long = ap (λ (x : Session). length x.lanes.heads) s.new ∙ length-replicate {A = ℕ} tenants 0;
-  lens_long = ap (λ (x : Session). length x.lanes.lens) s.new ∙ length-replicate {A = ℕ} tenants 0;
+  heads_long = ap (λ (x : Session). length (heads x.lanes)) s.new ∙ empty_marked.heads_long;
+  lens_long = ap (λ (x : Session). length (lens x.lanes)) s.new ∙ empty_marked.lens_long;
   place = subst (λ (x : Session). x.lanes.place < tenants) (sym s.new) (omega arith);
   tallies_long = ap (λ (x : Session). length x.tallies) s.new ∙ length-replicate {A = Tally} tenants tallies.zero;
 }

@@ -10,8 +10,8 @@ use Rattle.book.specs.RecordSums.{tenant_in, quantity_in}
 use Rattle.entry.specs.Entry.{is_buy}
 use Rattle.lanes.specs.Runs.{counts_for}
 use Rattle.tally.specs.Tallies.{tally_at, only_for, bought_in_all, sold_in_all}
-use Rattle.session.specs.declared.TurnAnswer.TheVariants as turn_answer
-use Rattle.session.specs.declared.OpenAnswer.TheVariants as open_answer
+use Rattle.session.specs.TurnAnswer as turn_answer
+use Rattle.session.specs.OpenAnswer as open_answer
 use Rattle.session.specs.Market.{Market}
 use Rattle.demands.specs.Runs.{Call, Answer, coded, turned, opened, step, after, since, lane_in, head_entry, Start, Reached}
 

@@ -1,6 +1,6 @@
 -- The tallies as sums: each call adds to each tenant's tally what its answer and its records say, and as much bought as
 -- sold.
-use Rattle.std.specs.Prelude.{◌≡◌, Bool, List, [], ℕ, ◌+◌, ◌<◌, length}
+use Rattle.std.specs.Prelude.{◌≡◌, Bool, List, [], ℕ, ◌+◌, ◌<◌, length, Some}
 use Rattle.std.proofs.Math.Path.{refl, sym, ap}
 use Rattle.std.proofs.Common.{ap₂, ◌∙◌, true≢false, add-zero, zero-add, eq-eqb, ne_eqb}
 use Rattle.std.proofs.Math.Bool.{true, false}
@@ -20,7 +20,6 @@ use Rattle.entry.specs.declared.Settings.{Settings}
 use Rattle.entry.specs.declared.Terms.{Terms}
 use Rattle.entry.specs.Entry.{is_buy}
 use Rattle.checks.specs.TurnDown.{converts, as_judged}
-use Rattle.lanes.specs.declared.Served.TheVariants.{Lane}
 use Rattle.lanes.specs.Runs.{counts_for}
 use Rattle.tally.specs.declared.Tally.{Tally}
 use Rattle.tally.specs.Tallies as tallies
@@ -51,7 +50,7 @@ adds_none : (xs : List Tally) → Adds xs xs (λ u. 0) (λ u. 0) (λ u. 0)
 adds_none xs u h = sym (plus_none (tally_at xs u))
 
 -- a turn of lane t, as the tallies count it
-counts_is : (t u : ℕ) → only_for t 1 u ≡ counts_for u (Lane t)
+counts_is : (t u : ℕ) → only_for t 1 u ≡ counts_for u (Some t)
 counts_is t u = elim (ℕ_discrete u t) [
   | yes e ↦ rw (eq-eqb u t e, eq-eqb t u (sym e))
   | no n ↦ rw (ne_eqb u t n, ne_eqb t u (λ e. n (sym e)))
@@ -63,7 +62,7 @@ unfolding as_judged
 judged_side e q t = picked_of_both (λ (x : Entry). is_buy x ≡ is_buy e) (converts e q) _ _ refl refl
 
 -- the count of a taken turn
-taken_adds : (xs : List Tally) (t : ℕ) → length xs ≡ tenants → Adds xs (counted xs t 1 0 0) (λ u. counts_for u (Lane t)) (λ u. 0) (λ u. 0)
+taken_adds : (xs : List Tally) (t : ℕ) → length xs ≡ tenants → Adds xs (counted xs t 1 0 0) (λ u. counts_for u (Some t)) (λ u. 0) (λ u. 0)
 taken_adds xs t long u h =
     added_at (only_for t 1) (only_for t 0) (only_for t 0) xs u (rw long h) ∙ plus_same (tally_at xs u) (counts_is t u) (only_none t u) (only_none t u)
 
@@ -94,16 +93,16 @@ module _ (m : Market) (t : ℕ) (was : List ℕ) (next : ℕ) (sound : SoundBook
   told_all = sum_same tenants (λ u _. sym (told_is u)) ∙ trade_all b next sound (opposite j) bound j.size.0 a was
 
   -- one more addition to what counting the turn made
-  then : (xs ys : List Tally) → length xs ≡ tenants → ys ≡ counted xs t 1 0 0 → (g h : ℕ → ℕ) → Adds xs (added (λ u. 0) g h ys) (λ u. counts_for u (Lane t)) g h
+  then : (xs ys : List Tally) → length xs ≡ tenants → ys ≡ counted xs t 1 0 0 → (g h : ℕ → ℕ) → Adds xs (added (λ u. 0) g h ys) (λ u. counts_for u (Some t)) g h
   then xs ys long e g h u l =
       let same : length ys ≡ tenants = ap length e ∙ (added_length _ _ _ 0 xs ∙ long) in
       added_at (λ u. 0) g h ys u (rw same l)
       ∙ (ap (λ (x : Tally). plus x 0 (g u) (h u)) (ap (λ (x : List Tally). tally_at x u) e ∙ taken_adds xs t long u l)
-      ∙ (plus_twice (tally_at xs u) (counts_for u (Lane t)) 0 0 0 (g u) (h u) ∙ plus_same (tally_at xs u) (add-zero _) (zero-add _) (zero-add _)))
+      ∙ (plus_twice (tally_at xs u) (counts_for u (Some t)) 0 0 0 (g u) (h u) ∙ plus_same (tally_at xs u) (add-zero _) (zero-add _) (zero-add _)))
 
   sided_adds :
       (xs ys : List Tally) → length xs ≡ tenants → ys ≡ counted xs t 1 0 0 → (x : Bool) →
-      Adds xs (pick x (added (λ u. 0) (only_for t f) resting ys) (added (λ u. 0) resting (only_for t f) ys)) (λ u. counts_for u (Lane t))
+      Adds xs (pick x (added (λ u. 0) (only_for t f) resting ys) (added (λ u. 0) resting (only_for t f) ys)) (λ u. counts_for u (Some t))
       (λ u. pick x (only_for t f u) (told u)) (λ u. pick x (told u) (only_for t f u))
   unfolding pick
   sided_adds xs ys long e true u l = then xs ys long e (only_for t f) resting u l ∙ plus_same (tally_at xs u) refl refl (told_is u)
@@ -111,7 +110,7 @@ module _ (m : Market) (t : ℕ) (was : List ℕ) (next : ℕ) (sound : SoundBook
 
   traded_adds :
       (xs ys : List Tally) → length xs ≡ tenants → ys ≡ counted xs t 1 0 0 → (x : Bool) → is_buy j ≡ x →
-      Adds xs (tallies_after ys t j b bound a) (λ u. counts_for u (Lane t)) (λ u. pick x (only_for t f u) (told u)) (λ u. pick x (told u) (only_for t f u))
+      Adds xs (tallies_after ys t j b bound a) (λ u. counts_for u (Some t)) (λ u. pick x (only_for t f u) (told u)) (λ u. pick x (told u) (only_for t f u))
   unfolding tallies_after resting_share
   traded_adds xs ys long e x is u l =
       ap (λ y. tally_at (pick y (added (λ u. 0) (only_for t f) resting ys) (added (λ u. 0) resting (only_for t f) ys)) u) is ∙ sided_adds xs ys long e x u l
@@ -151,7 +150,7 @@ either_none x = picked_of_both (λ k. k ≡ 0) x _ _
 
 module _ (m : Market) (stands : Stands m) where
   module _ (t : ℕ) (tenant : t < tenants) (set : m.session.accepted ≡ true) (was : List ℕ) where
-    counted_once : Adds m.session.tallies (turn_counted m t) (λ u. counts_for u (Lane t)) (λ u. 0) (λ u. 0)
+    counted_once : Adds m.session.tallies (turn_counted m t) (λ u. counts_for u (Some t)) (λ u. 0) (λ u. 0)
     counted_once = taken_adds m.session.tallies t stands.shaped.tallies_long
 
     taken_counts : {d : TurnDone} → OutcomeOf m was t d → TurnCounts m d

@@ -4,7 +4,7 @@
 use Rattle.std.specs.Prelude.{◌≡◌, ◌↔◌, List, ℕ, ◌≤◌, ◌<◌}
 use Rattle.units.specs.Units.{tenants}
 use Rattle.session.specs.declared.Session.{Session}
-use Rattle.session.specs.declared.Tallied.TheVariants.{Refused}
+use Rattle.session.specs.Tallied.{Refused}
 use Rattle.session.specs.Market.{Market}
 use Rattle.session.specs.Reading.{Values, tallied_of}
 use Rattle.replay.specs.Tallying.{tally_lines_to, reading_of, tally_lines}

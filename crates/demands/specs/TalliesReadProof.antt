@@ -4,7 +4,7 @@ use Rattle.std.proofs.Common.{sym, ap, ◌∙◌, arith}
 use Rattle.units.specs.Units.{tenants}
 use Rattle.units.specs.Tests.{order, less, equal, more}
 use Rattle.session.specs.declared.Session.{Session}
-use Rattle.session.specs.declared.Tallied.TheVariants.{Refused}
+use Rattle.session.specs.Tallied.{Refused}
 use Rattle.session.specs.Market.{Market}
 use Rattle.session.specs.Reading.{values_of, tallied_of}
 use Rattle.session.specs.ReadingLaws.{no_tenant, its_tally, not_refused}

@@ -1,6 +1,6 @@
 -- What a turn comes to, case by case: for each outcome the market, the answer and the fill records that it leaves, in
 -- the words of the demands. What this crate knows of how a turn is worked out stands here alone.
-use Rattle.std.specs.Prelude.{◌≡◌, true, false, ltb, eqb}
+use Rattle.std.specs.Prelude.{◌≡◌, true, false, ltb, eqb, Err, None, Ok, Option, Result, Some, ℕ}
 use Rattle.std.proofs.Math.Path.{refl}
 use Rattle.std.proofs.Common.{sym, ap, ◌∙◌, subst, true≢false, arith}
 use mathlib.Core.List.{List}
@@ -9,21 +9,19 @@ use Rattle.std.proofs.Math.ListN.{length}
 use borrow.Author.Tests.{ltb-true, ltb-false}
 use Rattle.units.specs.Units.{contracts, tenants}
 use Rattle.units.specs.Tests.{pick, picked, picked_of_both, not_false}
-use Rattle.book.specs.declared.lookup.Found.{Found}
-use Rattle.book.specs.declared.lookup.Found.TheVariants as looked
+use Rattle.book.specs.declared.lookup.Lost.{Lost}
+use Rattle.book.specs.declared.lookup.Lost.TheVariants as looked
 use Rattle.book.specs.Book.{Book, freed, rested}
 use Rattle.book.specs.Lookup.{found, code_of}
 use Rattle.book.specs.Trading.{filled, after_trade, trade_records, trade_written}
 use Rattle.entry.specs.Entry.{is_cancel, is_buy}
 use Rattle.entry.specs.Quotes.{quotes_of}
 use Rattle.checks.specs.TurnDown.{turn_down}
-use Rattle.judge.specs.declared.Judged.{Judged}
-use Rattle.judge.specs.declared.Judged.TheVariants.{TurnedDown, Rests, Trades}
+use Rattle.judge.specs.Judged.{Judged}
+use Rattle.judge.specs.Judged.{TurnedDown, Rests, Trades}
 use Rattle.judge.specs.Disposition.{disposition_of}
 use Rattle.judge.specs.Verdict.{verdict}
 use Rattle.judge.specs.VerdictLaws.{Ruled, ruled}
-use Rattle.lanes.specs.declared.Served.{Served}
-use Rattle.lanes.specs.declared.Served.TheVariants.{Lane, Nobody}
 use Rattle.lanes.specs.Ring.{taken as lane_taken}
 use Rattle.lanes.specs.Rotation.{waits, served}
 use Rattle.lanes.specs.Runs.{FirstBusy}
@@ -35,8 +33,8 @@ use Rattle.dealing.specs.Floor.{Floor, Made}
 use Rattle.dealing.specs.Settle.{opposite, tallies_after}
 use Rattle.dealing.specs.Deal.{quotes_on, filled_of, disposition_in, book_after, by_found, by_verdict, ordered, dealt}
 use Rattle.dealing.specs.Deal.{cancels as cancel_made, rests as rest_made, trades as trade_made}
-use Rattle.session.specs.declared.TurnAnswer.{TurnAnswer}
-use Rattle.session.specs.declared.TurnAnswer.TheVariants as answer
+use Rattle.session.specs.TurnAnswer.{TurnAnswer}
+use Rattle.session.specs.TurnAnswer as answer
 use Rattle.session.specs.Market.{Market, market_of, session_with, floor_on}
 use Rattle.session.specs.Turn.{TurnDone, Line, Printed, printed, refused as printed_refused, turn as printed_turn, quotes_in, standing_of, nobody, turn_cases, turn_refusal, after_taking, turn_made, entry_turn, turn_of_lane, turn_of}
 use Rattle.demands.specs.Runs.{turned, is_refused, lane_in, head_entry}
@@ -58,9 +56,9 @@ values_of (printed_refused n) = record { tenant = 0; code = n; number = 0; fille
 values_of (printed_turn l) = l
 
 -- and whose turn they say was taken
-abbrev pub lane_told : Printed → Served
-lane_told (printed_refused n) = Nobody
-lane_told (printed_turn l) = Lane l.tenant
+abbrev pub lane_told : Printed → (Option ℕ)
+lane_told (printed_refused n) = None
+lane_told (printed_turn l) = Some l.tenant
 
 pub lane_told_lem : (a : TurnAnswer) → lane_in (turned a) ≡ lane_told (printed a)
 lane_told_lem (answer.Refused n) = refl
@@ -93,7 +91,7 @@ module _ (m : Market) (t : ℕ) where
   down_by = turn_down (head_entry m t) (quotes_in m) m.session.terms (standing_of m t)
 
   -- what the lookup of the number that a cancel names says
-  abbrev pub looked_up : Found
+  abbrev pub looked_up : Result ℕ Lost
   looked_up = found m.book m.session.next t (head_entry m t).number
 
   -- of an order that trades: what is filled, its disposition, how many records are written, and the book left
@@ -153,7 +151,7 @@ module _ (m : Market) (t : ℕ) where
 module _ (m : Market) (was : List ℕ) (t : ℕ) where
   -- of a cancel: the order rests as its tenant's in a row; or none does, and it is turned down by what the number is
   pub data CancelOf : TurnDone → Type 0 where
-    cancels : (row : ℕ) → looked_up m t ≡ looked.Rests row → CancelOf (cancel_done m t was row)
+    cancels : (row : ℕ) → looked_up m t ≡ Ok row → CancelOf (cancel_done m t was row)
     no_such : {code : ℕ} → code_of (looked_up m t) ≡ code → 0 < code → CancelOf (down_done m t was code)
 
   -- of a new order: turned down, or before the opening at rest, or once open traded
@@ -173,11 +171,11 @@ module _ (m : Market) (was : List ℕ) (t : ℕ) where
   abbrev floor : Floor
   floor = floor_on taking.session m.book
 
-  by_found_lem : (x : Found) → looked_up m t ≡ x → CancelOf (turn_made taking t (by_found floor was (head_entry m t) x))
+  by_found_lem : (x : Result ℕ Lost) → looked_up m t ≡ x → CancelOf (turn_made taking t (by_found floor was (head_entry m t) x))
   unfolding after_taking
-  by_found_lem (looked.Rests row) is = cancels row is
-  by_found_lem looked.GivenOut is = no_such (ap code_of is) (omega arith)
-  by_found_lem looked.NeverGiven is = no_such (ap code_of is) (omega arith)
+  by_found_lem (Ok row) is = cancels row is
+  by_found_lem (Err looked.GivenOut) is = no_such (ap code_of is) (omega arith)
+  by_found_lem (Err looked.NeverGiven) is = no_such (ap code_of is) (omega arith)
 
   cancel_of : CancelOf (turn_made taking t (cancel_made floor t was (head_entry m t)))
   unfolding cancel_made after_taking
@@ -201,7 +199,7 @@ module _ (m : Market) (was : List ℕ) (t : ℕ) where
 -- What every taken turn leaves, however its entry comes out: the answer names its tenant; of the lanes that one has
 -- lost its head, and the place has moved. Where the entry is turned down, that and the count of the turn is all.
 pub record Leaves (m : Market) (was : List ℕ) (t : ℕ) (d : TurnDone) : Type 0 where
-  pub names : lane_in (turned d.answer) ≡ Lane t
+  pub names : lane_in (turned d.answer) ≡ Some t
   pub not_refused : is_refused (turned d.answer) ≡ false
   pub lanes : d.market.session.lanes ≡ lane_taken m.session.lanes t
   pub accepted : d.market.session.accepted ≡ m.session.accepted
@@ -213,7 +211,7 @@ pub record Leaves (m : Market) (was : List ℕ) (t : ℕ) (d : TurnDone) : Type 
 module _ (m : Market) (was : List ℕ) (t : ℕ) where
   -- what a turn leaves is told by its book, its tallies, its answer and its records
   left :
-      (book : Book) (next : ℕ) (tallies : List Tally) (a : TurnAnswer) (records : List ℕ) → lane_in (turned a) ≡ Lane t → is_refused (turned a) ≡ false →
+      (book : Book) (next : ℕ) (tallies : List Tally) (a : TurnAnswer) (records : List ℕ) → lane_in (turned a) ≡ Some t → is_refused (turned a) ≡ false →
       book.places ≡ m.book.places → length tallies ≡ length m.session.tallies →
       (kind_of a ≡ 1 → (left_with m t book next tallies ≡ once_taken m t) × (records ≡ was)) →
       Leaves m was t (record { market = left_with m t book next tallies; answer = a; records = records })
@@ -253,10 +251,10 @@ module _ (m : Market) (was : List ℕ) (t : ℕ) where
 -- the turn is taken, and of lane t
 pub record ServedAs (m : Market) (lent t : ℕ) : Type 0 where
   pub not_refused : turn_refusal m.session lent ≡ 0
-  pub lane : served m.session.lanes ≡ Lane t
+  pub lane : served m.session.lanes ≡ Some t
 
 -- that is the first lane with an entry, at or after the rotation place
-pub first_busy : (m : Market) (t : ℕ) → m.session.lanes.place < tenants → served m.session.lanes ≡ Lane t
+pub first_busy : (m : Market) (t : ℕ) → m.session.lanes.place < tenants → served m.session.lanes ≡ Some t
     → FirstBusy (waits m.session.lanes) m.session.lanes.place t
 unfolding served
 first_busy m t h is = (served_first (waits m.session.lanes) m.session.lanes.place h t).0 is
@@ -272,9 +270,9 @@ module _ (m : Market) (lent : ℕ) (was : List ℕ) where
     refused : 0 < turn_refusal m.session lent → Outcome (record { market = m; answer = answer.Refused (turn_refusal m.session lent); records = was })
     taken : (t : ℕ) {d : TurnDone} → ServedAs m lent t → OutcomeOf m was t d → Outcome d
 
-  by_lane : turn_refusal m.session lent ≡ 0 → (s : Served) → served m.session.lanes ≡ s → nobody s ≡ false → Outcome (turn_of_lane m was s)
-  by_lane e (Lane t) h n = taken t (record { not_refused = e; lane = h }) (entry_of m was t)
-  by_lane e Nobody h n = absurd (true≢false n)
+  by_lane : turn_refusal m.session lent ≡ 0 → (s : (Option ℕ)) → served m.session.lanes ≡ s → nobody s ≡ false → Outcome (turn_of_lane m was s)
+  by_lane e (Some t) h n = taken t (record { not_refused = e; lane = h }) (entry_of m was t)
+  by_lane e None h n = absurd (true≢false n)
 
   not_refused : turn_refusal m.session lent ≡ 0 → Outcome (turn_of_lane m was (served m.session.lanes))
   unfolding turn_refusal
@@ -294,13 +292,13 @@ module _ (m : Market) (lent : ℕ) (was : List ℕ) where
   served_leaves t s = leaves m was t (served_outcome t s)
 
   -- a turn whose answer names t is t's
-  pub named : (t : ℕ) → lane_in (turned (turn_of m lent was).answer) ≡ Lane t → ServedAs m lent t
+  pub named : (t : ℕ) → lane_in (turned (turn_of m lent was).answer) ≡ Some t → ServedAs m lent t
   named t = go outcome
     where
-      lane_of : Served → ℕ
-      lane_of (Lane u) = u
-      lane_of Nobody = 0
+      lane_of : (Option ℕ) → ℕ
+      lane_of (Some u) = u
+      lane_of None = 0
 
-      go : {d : TurnDone} → Outcome d → lane_in (turned d.answer) ≡ Lane t → ServedAs m lent t
+      go : {d : TurnDone} → Outcome d → lane_in (turned d.answer) ≡ Some t → ServedAs m lent t
       go (refused h) e = absurd (true≢false (ap nobody e))
       go (taken u s o) e = subst (ServedAs m lent) (ap lane_of (sym (leaves m was u o).names ∙ e)) s

@@ -26,11 +26,11 @@ use Rattle.checks.specs.TurnDown.{not_yet, off_grid, at_strike, no_offer, unbid,
 use Rattle.judge.specs.Bound.{buy_bound, sell_bound, bound_of}
 use Rattle.judge.specs.Disposition.{beyond_drill, at_away, disposition_of}
 use Rattle.judge.specs.Verdict.{verdict}
-use Rattle.lanes.specs.Ring.{entry_at, slot, waiting_at, put, put_all, joined, taken}
+use Rattle.lanes.specs.Ring.{lane_of, entry_at, slot, waiting_at, put, put_all, joined, taken}
 use Rattle.lanes.specs.Rotation.{distance, served_by, served}
 use Rattle.price.specs.Price.{usable, midpoint, valid, first_valid, price_of}
-use Rattle.session.specs.declared.TurnAnswer.{TurnAnswer}
-use Rattle.session.specs.declared.TurnAnswer.TheVariants as answer
+use Rattle.session.specs.TurnAnswer.{TurnAnswer}
+use Rattle.session.specs.TurnAnswer as answer
 use Rattle.session.specs.Market.{Market}
 use Rattle.session.specs.Settings.{settings_of}
 use Rattle.lanes.specs.Bulk.{well_counted, some_malformed}
@@ -77,7 +77,11 @@ crossing = record {
     terms = terms 10 20 0;
     away = away_quote 0 0;
     opened = true;
-    lanes = record { heads = 0 ∷ 0 ∷ 1 ∷ replicate 6 0; lens = 0 ∷ 0 ∷ 0 ∷ 0 ∷ 0 ∷ 0 ∷ 0 ∷ 1 ∷ 0 ∷ []; place = 3 };
+    lanes = record {
+      lanes =
+          lane_of 0 0 ∷ lane_of 0 0 ∷ lane_of 1 0 ∷ lane_of 0 0 ∷ lane_of 0 0 ∷ lane_of 0 0 ∷ lane_of 0 0 ∷ lane_of 0 1 ∷ lane_of 0 0 ∷ [];
+      place = 3;
+    };
     next = 2;
     tallies = (turn_of waiting rows blank).market.session.tallies;
   };

@@ -8,3 +8,4 @@ pub mod SettingsLaws
 pub mod EntryLaws
 pub mod QuoteLaws
 pub mod Words
+pub mod Refusals

@@ -8,6 +8,7 @@ pub mod best_quotes;
 pub mod form;
 mod numbers;
 pub mod ranges;
+pub mod refusal;
 pub mod words;
 
 // The numbers of an entry.

@@ -2,18 +2,16 @@
 ghost use Rattle.std.specs.Prelude.{◌≡◌};
 ghost use Rattle.entry.specs.Numbers.{one_or_two, from1to};
 
-use units::words::{both, either};
-
 // Sides, lives, allocations and option types are numbered 1 and 2.
 pub(crate) fn one_or_two(n: u32) -> bool
     ensures { result ≡ one_or_two n }
 {
-    either(n == 1, n == 2)
+    n == 1 || n == 2
 }
 
 // Prices and sizes run from 1 to the most that is allowed.
 pub(crate) fn from_one_to(most: u32, n: u32) -> bool
     ensures { result ≡ from1to most n }
 {
-    both(1 <= n, n <= most)
+    1 <= n && n <= most
 }

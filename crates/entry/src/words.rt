@@ -1,26 +1,18 @@
-// The words for prices that the rules add and take away, in numbers that hold any two of them.
-ghost use Rattle.std.specs.Prelude.{◌≡◌, ◌+◌, ◌-◌};
+// Prices that the rules add, in numbers that hold any two of them.
+ghost use Rattle.std.specs.Prelude.{◌≡◌, ◌+◌};
 
-use rows::row::beyond;
 use units::Cents;
 
 // A price, as a number that a sum of prices fits.
 pub fn wide(price: Cents) -> u64
     ensures { result ≡ price.0 }
 {
-    price.0 as u64
+    u64::from(price.0)
 }
 
 // A price and a buffer together.
 pub fn plus(a: Cents, b: Cents) -> u64
     ensures { result ≡ a.0 + b.0 }
 {
-    a.0 as u64 + b.0 as u64
-}
-
-// What the first price has beyond the second, if anything.
-pub fn less(a: Cents, b: Cents) -> Cents
-    ensures { result.0 ≡ a.0 - b.0 }
-{
-    Cents(beyond(a.0, b.0))
+    u64::from(a.0) + u64::from(b.0)
 }

@@ -1,15 +1,18 @@
 -- Inscribing the bytes of a text that are at hand: line after line is read and written, as long as the output has room.
-use Rattle.std.specs.Prelude.{◌≡◌, Bool, List, [], ◌∷◌, ◌++◌, ℕ, ◌+◌, ◌-◌, ◌≤◌, ◌<◌, ltb, eqb, length, drop}
+use Rattle.std.specs.Prelude.{◌≡◌, Result, Ok, Err, Bool, List, [], ◌∷◌, ◌++◌, ℕ, ◌+◌, ◌-◌, ◌≤◌, ◌<◌, ltb, eqb, length, drop}
 use Rattle.std.proofs.lemmas.List.Edits.{sets}
 use Rattle.units.specs.Tests.{pick}
 use Rattle.tape.specs.Depth.{most_bytes}
 use Rattle.figures.specs.declared.Place.{Place}
-use Rattle.figures.specs.declared.reading.Moved.{Moved}
 use Rattle.figures.specs.declared.reading.Taken.{Taken}
-use Rattle.figures.specs.declared.Next.{Next}
-use Rattle.figures.specs.declared.Next.TheVariants.{Read, Write, Stop}
+use Rattle.figures.specs.Next.{Next}
+use Rattle.figures.specs.Next.{Read, Write, Stop}
 use Rattle.figures.specs.declared.Inscribed.{Inscribed}
-use Rattle.figures.specs.Reading.{Reader, Step, byte_of}
+use Rattle.figures.specs.declared.Next as told
+use Rattle.figures.specs.declared.Next.TheVariants as next
+use Rattle.writer.specs.declared.Refusal.{Refusal}
+use Rattle.writer.specs.Refusal.{refusal_number}
+use Rattle.figures.specs.Reading.{Moved, Reader, Step, byte_of}
 use Rattle.figures.specs.Whole.{last_code}
 
 -- what inscribing makes: the reader, the bytes written, the place of the next byte at hand, and what comes next
@@ -45,8 +48,18 @@ inscribe_on more (b ∷ s) from room r =
 unfoldable pub inscribe_of : List ℕ → Bool → ℕ → ℕ → Reader → Inscribing
 inscribe_of bytes more from room r = inscribe_on more (drop from bytes) from room r
 
--- what the program is told
-abbrev pub leaving : Place → ℕ → ℕ → Next → Inscribed
+-- the number by which a line is refused, and 0 where it is not
+abbrev pub code_of : Result (Unit {0}) Refusal → ℕ
+code_of (Ok _) = 0
+code_of (Err why) = refusal_number why
+
+-- what the program is told, and the number of it
+abbrev pub next_of : told.Next → Next
+next_of next.Read = Read
+next_of next.Write = Write
+next_of (next.Stop how) = Stop (code_of how)
+
+abbrev pub leaving : Place → ℕ → ℕ → told.Next → Inscribed
 leaving p from at next = record { place = p; from = from; at = at; next = next }
 
 -- a line's number is below this
@@ -66,11 +79,13 @@ pub record InscribesTo (q : Inscribing) (out : List ℕ) (at : ℕ) (r : Inscrib
   pub laid : lent ≡ sets out at q.bytes
   pub end : r.at ≡ at + length q.bytes
   pub from : r.from ≡ q.from
-  pub next : r.next ≡ q.next
+  pub next : next_of r.next ≡ q.next
 
 -- what a byte leaves that writes nothing
-abbrev pub keeping : Moved → ℕ → Taken
-keeping m at = record { place = m.place; at = at; code = m.code }
+pub record Keeps (m : Moved) (at : ℕ) (r : Taken) : Type 0 where
+  pub place : r.place ≡ m.place
+  pub same : r.at ≡ at
+  pub code : code_of r.told ≡ m.code
 
 -- what one byte asks, and what it leaves: exactly what it makes
 pub record CanTake (p : Place) (out : List ℕ) (at : ℕ) : Type 0 where
@@ -82,4 +97,4 @@ pub record TakesTo (st : Step) (out : List ℕ) (at : ℕ) (r : Taken) (numbers 
   pub numbers_are : numbers ≡ st.reader.numbers
   pub laid : lent ≡ sets out at st.bytes
   pub end : r.at ≡ at + length st.bytes
-  pub code : r.code ≡ st.code
+  pub code : code_of r.told ≡ st.code

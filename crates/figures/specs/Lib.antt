@@ -2,6 +2,7 @@
 pub mod Figures
 pub mod Reading
 pub mod Whole
+pub mod Next
 pub mod Inscribing
 pub mod Running
 pub mod TapeInFigures

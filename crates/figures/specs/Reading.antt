@@ -1,11 +1,10 @@
 -- A text read byte by byte: what one byte makes of the line that it stands in.
-use Rattle.std.specs.Prelude.{Bool, true, false, List, [], ℕ, ◌+◌, ◌-◌, ◌*◌, ltb, eqb, length, take, set}
+use Rattle.std.specs.Prelude.{Bool, true, false, Option, Some, None, List, [], ℕ, ◌+◌, ◌-◌, ◌*◌, ltb, eqb, length, take, set}
 use Rattle.units.specs.Tests.{◌and◌, ◌or◌, pick}
 use Rattle.units.specs.Units.{most32}
 use Rattle.tape.specs.Leads.{encode_all}
 use Rattle.writer.specs.Write.{write_refusal}
 use Rattle.figures.specs.declared.Place.{Place}
-use Rattle.figures.specs.declared.reading.Moved.{Moved}
 use Rattle.figures.specs.Figures.{space, newline}
 
 -- a line that is not the figures of one event is refused by this
@@ -23,12 +22,22 @@ nine_digit = 57
 abbrev pub line_start : ℕ → Place
 line_start line = record { line = line; count = 0; begun = false; value = 0 }
 
+-- the place after a byte, and 0, or the number by which the byte's line is refused
+pub record Moved : Type 0 where
+  pub place : Place
+  pub code : ℕ
+
 -- the line goes on at a place, or is refused there
 abbrev pub goes_to : Place → Moved
 goes_to p = record { place = p; code = 0 }
 
 abbrev pub refused_at : Place → Moved
 refused_at p = record { place = p; code = not_one }
+
+-- the place where it goes on, or none where it is refused at a place
+abbrev pub moved_of : Place → Option Place → Moved
+moved_of p (Some next) = goes_to next
+moved_of p None = refused_at p
 
 -- a number with one digit more
 abbrev pub with_digit : ℕ → Place → ℕ

@@ -8,9 +8,8 @@ use Rattle.units.specs.Units.{most32}
 use Rattle.writer.specs.Write.{write_refusal}
 use Rattle.writer.specs.WriteLaws.{accepted}
 use Rattle.figures.specs.declared.Place.{Place}
-use Rattle.figures.specs.declared.reading.Moved.{Moved}
 use Rattle.figures.specs.Figures.{space, newline}
-use Rattle.figures.specs.Reading.{refused_at, with_digit, misplaced, digit_of, can_end, end_of, numbers_after, Reader, Step, silent, writing, line_end, byte_of}
+use Rattle.figures.specs.Reading.{Moved, refused_at, with_digit, misplaced, digit_of, can_end, end_of, numbers_after, Reader, Step, silent, writing, line_end, byte_of}
 
 -- a byte that is not misplaced
 pub placed : (b : ℕ) (p : Place) → misplaced b p ≡ false → (48 ≤ b) × (b ≤ 57) × (p.begun ≡ true → 0 < p.value)

@@ -1,7 +1,7 @@
 -- The program on a file that gives its bytes in parts: between two system calls it inscribes, and each call is the one
 -- that comes next.
 use Rattle.std.specs.Prelude.{◌≡◌, Bool, true, false, List, [], ◌∷◌, ◌++◌, ℕ, ◌-◌, length, drop}
-use Rattle.figures.specs.declared.Next.TheVariants.{Read, Write, Stop}
+use Rattle.figures.specs.Next.{Read, Write, Stop}
 use Rattle.figures.specs.Reading.{Reader}
 use Rattle.figures.specs.Whole.{Inscription, ◌before◌, ending_of, at_first}
 use Rattle.figures.specs.Inscribing.{Inscribing, inscribe_of}

@@ -8,8 +8,8 @@ use borrow.Author.Tests.{ltb-true, ltb-false, lt-ltb}
 use Rattle.std.proofs.Math.ListN.{length}
 use Rattle.units.specs.Tests.{pick, picked}
 use Rattle.tape.specs.Depth.{most_bytes}
-use Rattle.figures.specs.declared.Next.{Next}
-use Rattle.figures.specs.declared.Next.TheVariants.{Read, Write, Stop}
+use Rattle.figures.specs.Next.{Next}
+use Rattle.figures.specs.Next.{Read, Write, Stop}
 use Rattle.figures.specs.declared.Place.{Place}
 use Rattle.figures.specs.Reading.{Reader, writing, line_end, byte_of}
 use Rattle.figures.specs.Whole.{Ending, Inscription, nothing_but, ◌before◌, ending_of, inscribed_from, inscribed}

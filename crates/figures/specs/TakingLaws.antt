@@ -1,5 +1,6 @@
 -- What one byte leaves in lent memory: nothing, or the bytes of the event that it ends.
-use Rattle.std.specs.Prelude.{◌≡◌, Bool, List, ℕ, ◌+◌, ◌-◌, ◌≤◌, ◌<◌, length, take, set}
+use Prim.{tt}
+use Rattle.std.specs.Prelude.{◌≡◌, Ok, Err, Bool, List, ℕ, ◌+◌, ◌-◌, ◌≤◌, ◌<◌, length, take, set}
 use Rattle.std.proofs.Math.Path.{refl, ap}
 use Rattle.std.proofs.Math.Bool.{true, false}
 use Rattle.std.proofs.Common.{arith}
@@ -8,21 +9,20 @@ use borrow.Rule.Slice.PartMut.{mid_of, put_mid, mid_len, put_same}
 use Rattle.std.proofs.Math.ListN.{length-set}
 use Rattle.units.specs.Tests.{pick}
 use Rattle.tape.specs.Leads.{encode_all}
-use Rattle.writer.specs.declared.Written.{Written}
-use Rattle.writer.specs.declared.Written.TheVariants.{Used, Refused}
-use Rattle.writer.specs.Write.{write_refusal, written_of, buffer_after}
+use Rattle.writer.specs.declared.Refusal.{Refusal}
+use Rattle.writer.specs.Refusal.{refusal_number}
+use Rattle.writer.specs.Write.{Written, write_refusal, written_of, buffer_after}
 use Rattle.writer.specs.WriteLaws.{accepted, part_laid, used_says, refused_says}
 use Rattle.figures.specs.declared.Place.{Place}
-use Rattle.figures.specs.declared.reading.Moved.{Moved}
 use Rattle.figures.specs.declared.reading.Taken.{Taken}
 use Rattle.figures.specs.Figures.{space, newline}
-use Rattle.figures.specs.Reading.{goes_to, refused_at, line_start, digit_of, ended_place, can_end, end_of, numbers_after, silent, reader_of, writing, line_end, byte_of}
+use Rattle.figures.specs.Reading.{Moved, goes_to, refused_at, line_start, digit_of, ended_place, can_end, end_of, numbers_after, silent, reader_of, writing, line_end, byte_of}
 use Rattle.figures.specs.ReadingLaws.{can_fits}
-use Rattle.figures.specs.Inscribing.{keeping, CanTake, TakesTo}
+use Rattle.figures.specs.Inscribing.{Keeps, CanTake, TakesTo}
 
 -- nothing is written
-pub takes_silent : (numbers out : List ℕ) (at : ℕ) (m : Moved) → TakesTo (silent numbers m) out at (keeping m at) numbers out
-takes_silent numbers out at m = record { place = refl; numbers_are = refl; laid = refl; end = omega arith; code = refl }
+pub takes_silent : (numbers out : List ℕ) (at : ℕ) (m : Moved) {r : Taken} → Keeps m at r → TakesTo (silent numbers m) out at r numbers out
+takes_silent numbers out at m k = record { place = k.place; numbers_are = refl; laid = refl; end = omega (arith, k.same); code = k.code }
 
 module _ (p : Place) (numbers out : List ℕ) (at : ℕ) (can : CanTake p out at) where
   -- the numbers of the line, and the memory behind the place
@@ -36,14 +36,14 @@ module _ (p : Place) (numbers out : List ℕ) (at : ℕ) (can : CanTake p out at
   behind_long = mid_len at (length out) out (omega arith)
 
   module _ {r : Written} {lent : List ℕ} (is : r ≡ written_of vs (length behind)) (left : lent ≡ buffer_after vs behind) where
-    pub event_fits : {n : ℕ} → r ≡ Used n → at + n ≤ length out
+    pub event_fits : {n : ℕ} → r ≡ Ok n → at + n ≤ length out
     event_fits e =
         let u = used_says vs (length behind) is e in
         omega (arith, u.1, (accepted vs (length behind) u.0).1, behind_long, can.room)
 
     pub event_written :
-        {n : ℕ} → r ≡ Used n →
-        TakesTo (writing (length out - at) (reader_of p numbers)) out at (record { place = line_start (p.line + 1); at = at + n; code = 0 }) numbers (put_mid at (length out - at) out lent)
+        {n : ℕ} → r ≡ Ok n →
+        TakesTo (writing (length out - at) (reader_of p numbers)) out at (record { place = line_start (p.line + 1); at = at + n; told = Ok (tt {0}) }) numbers (put_mid at (length out - at) out lent)
     unfolding writing buffer_after pick
     event_written {n} e =
         let u = used_says vs (length behind) is e in
@@ -57,13 +57,13 @@ module _ (p : Place) (numbers out : List ℕ) (at : ℕ) (can : CanTake p out at
         }
 
     pub event_refused :
-        {code : ℕ} → r ≡ Refused code →
-        TakesTo (writing (length out - at) (reader_of p numbers)) out at (record { place = p; at = at; code = code }) numbers (put_mid at (length out - at) out lent)
+        {why : Refusal} → r ≡ Err why →
+        TakesTo (writing (length out - at) (reader_of p numbers)) out at (record { place = p; at = at; told = Err why }) numbers (put_mid at (length out - at) out lent)
     unfolding writing buffer_after pick
-    event_refused {code} e =
+    event_refused {why} e =
         let u = refused_says vs (length behind) is e in
-        let some : write_refusal vs (length out - at) ≡ code = rw behind_long at u.0 in
-        rw (left, u.0, lt-ltb 0 code u.1, some, ne_eqb code 0 (λ z. omega (arith, u.1)), put_same at (length out - at) out) record {
+        let some : write_refusal vs (length out - at) ≡ refusal_number why = rw behind_long at u.0 in
+        rw (left, u.0, lt-ltb 0 (refusal_number why) u.1, some, ne_eqb (refusal_number why) 0 (λ z. omega (arith, u.1)), put_same at (length out - at) out) record {
           place = refl;
           numbers_are = refl;
           laid = refl;
@@ -81,9 +81,9 @@ module _ (p : Place) (numbers out : List ℕ) (at : ℕ) {m : Moved} {next : Lis
       go true t e = absurd (omega arith)
       go false t e = refl
 
-  pub line_refused : {r : Taken} (room : ℕ) → 0 < m.code → r ≡ keeping m at → TakesTo (line_end room (reader_of p numbers)) out at r next out
+  pub line_refused : {r : Taken} (room : ℕ) → 0 < m.code → Keeps m at r → TakesTo (line_end room (reader_of p numbers)) out at r next out
   unfolding line_end numbers_after end_of pick
-  line_refused room h e = let no = cannot_end h in rw (e, left, is, no) (takes_silent numbers out at (refused_at p))
+  line_refused room h k = let no = cannot_end h in rw (left, no) (takes_silent numbers out at (refused_at p) (rw (is, no) at k))
 
   module _ (on : m.code ≤ 0) where
     can_end_lem : can_end p (length numbers) ≡ true
@@ -120,13 +120,13 @@ module _ (b room : ℕ) (p : Place) (numbers out : List ℕ) (at : ℕ) where
 
   module _ (no_newline : b ≡ newline → ⊥) where
     pub takes_space :
-        {m : Moved} {r : Taken} {next : List ℕ} → b ≡ space → m ≡ end_of p (length numbers) → next ≡ numbers_after p numbers → r ≡ keeping m at →
+        {m : Moved} {r : Taken} {next : List ℕ} → b ≡ space → m ≡ end_of p (length numbers) → next ≡ numbers_after p numbers → Keeps m at r →
         TakesTo (byte_of b room (reader_of p numbers)) out at r next out
     unfolding byte_of pick
-    takes_space is e left kept = rw (ne_eqb b newline no_newline, eq-eqb b space is, kept, e, left) (takes_silent (numbers_after p numbers) out at (end_of p (length numbers)))
+    takes_space is e left kept = rw (ne_eqb b newline no_newline, eq-eqb b space is, left) (takes_silent (numbers_after p numbers) out at (end_of p (length numbers)) (rw e at kept))
 
     pub takes_digit :
-        {m : Moved} {r : Taken} → (b ≡ space → ⊥) → m ≡ digit_of b p → r ≡ keeping m at →
+        {m : Moved} {r : Taken} → (b ≡ space → ⊥) → m ≡ digit_of b p → Keeps m at r →
         TakesTo (byte_of b room (reader_of p numbers)) out at r numbers out
     unfolding byte_of pick
-    takes_digit no_space e kept = rw (ne_eqb b newline no_newline, ne_eqb b space no_space, kept, e) (takes_silent numbers out at (digit_of b p))
+    takes_digit no_space e kept = rw (ne_eqb b newline no_newline, ne_eqb b space no_space) (takes_silent numbers out at (digit_of b p) (rw e at kept))

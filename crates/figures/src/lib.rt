@@ -7,11 +7,11 @@ mod reading;
 ghost use Rattle.std.specs.Prelude.{◌≡◌, ◌-◌, length};
 ghost use Rattle.figures.specs.Reading.{line_start, reader_of};
 ghost use Rattle.figures.specs.Whole.{last_code};
-ghost use Rattle.figures.specs.Inscribing.{used_up, leaving, inscribe_of, CanInscribe, InscribesTo};
+ghost use Rattle.figures.specs.Inscribing.{code_of, next_of, used_up, leaving, inscribe_of, CanInscribe, InscribesTo};
 
-use reading::{NOT_FIGURES, take};
+use reading::take;
 use tape::MOST_BYTES;
-use units::words::{either, first};
+use writer::Refusal;
 
 // Where a text is read: the line, from 1; how many of its numbers have ended; whether a number has begun, and its value
 // so far.
@@ -38,12 +38,12 @@ impl Place {
 }
 
 // What comes next: more of the text is read, what is written is written out, or nothing, since the text ended between
-// two lines (0), or its line at the place is refused by a number.
+// two lines, or its line at the place is refused.
 #[derive(Clone, Copy)]
 pub enum Next {
     Read,
     Write,
-    Stop(u32),
+    Stop(Result<(), Refusal>),
 }
 
 // What inscribing leaves: the place in the text, the place of the next byte at hand, the place after what is written,
@@ -60,28 +60,32 @@ fn leave(place: Place, from: usize, at: usize, next: Next) -> Inscribed
     ensures { result ≡ leaving place from at next }
 {
     Inscribed {
-        place: place,
-        from: from,
-        at: at,
-        next: next,
+        place,
+        from,
+        at,
+        next,
     }
 }
 
 // How a text ends at a place: inside a line it is refused there.
-fn last_code(place: Place) -> u32
-    ensures { result ≡ last_code place }
+fn ending(place: Place) -> Result<(), Refusal>
+    ensures { code_of result ≡ last_code place }
 {
-    first(either(place.begun, place.count > 0), NOT_FIGURES, 0)
+    if place.begun || place.count > 0 {
+        Err(Refusal::NotOneEvent)
+    } else {
+        Ok(())
+    }
 }
 
 // What comes next where the bytes at hand are used up.
 fn used_up(more: bool, place: Place) -> Next
-    ensures { result ≡ used_up more place }
+    ensures { next_of result ≡ used_up more place }
 {
     if more {
         Next::Read
     } else {
-        Next::Stop(last_code(place))
+        Next::Stop(ending(place))
     }
 }
 
@@ -103,20 +107,18 @@ pub fn inscribe(
         (inscribe_of bytes.now more from (length out.old - at) (reader_of place numbers.old))
         out.old at result numbers.new out.new }
 {
-    let mut from = from;
     let mut place = place;
     let mut at = at;
-    while from < bytes.len() {
+    for i in from..bytes.len() {
         if out.len() - at < MOST_BYTES {
-            return leave(place, from, at, Next::Write);
+            return leave(place, i, at, Next::Write);
         }
-        let taken = take(bytes[from], place, numbers, out, at);
+        let taken = take(bytes[i], place, numbers, out, at);
         place = taken.place;
         at = taken.at;
-        if taken.code > 0 {
-            return leave(place, from, at, Next::Stop(taken.code));
+        if taken.told.is_err() {
+            return leave(place, i, at, Next::Stop(taken.told));
         }
-        from += 1;
     }
-    leave(place, from, at, used_up(more, place))
+    leave(place, bytes.len(), at, used_up(more, place))
 }

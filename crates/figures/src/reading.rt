@@ -1,112 +1,81 @@
 // One byte of a text: a digit of a number, the space behind a number, or the newline behind a line.
 ghost use Rattle.std.specs.Prelude.{◌≡◌, ◌-◌, ◌≤◌, length};
-ghost use Rattle.figures.specs.Reading.{refused_at, misplaced, digit_of, end_of, numbers_after, reader_of, writing, line_end, byte_of};
-ghost use Rattle.figures.specs.Inscribing.{keeping, CanTake, TakesTo};
+ghost use Rattle.figures.specs.Reading.{moved_of, misplaced, digit_of, end_of, numbers_after, reader_of, writing, line_end, byte_of};
+ghost use Rattle.figures.specs.Inscribing.{Keeps, CanTake, TakesTo};
 
 use crate::Place;
-use units::MOST_32;
-use units::words::{both, either};
-use writer::{NOT_ONE_EVENT, Written, write};
+use writer::{Refusal, write};
 
-// A line that is not the figures of one event is refused as its numbers would be.
-pub(crate) const NOT_FIGURES: u32 = NOT_ONE_EVENT;
+const SPACE: u8 = b' ';
 
-const ZERO: u8 = 48;
+const NEWLINE: u8 = b'\n';
 
-const NINE: u8 = 57;
-
-const SPACE: u8 = 32;
-
-const NEWLINE: u8 = 10;
-
-// The place after a byte, and 0, or the number by which the byte's line is refused.
-#[derive(Clone, Copy)]
-struct Moved {
-    place: Place,
-    code: u32,
-}
-
-// The same with the place after what is written.
+// The place after a byte, the place after what is written, and whether the byte's line is refused.
 #[derive(Clone, Copy)]
 pub(crate) struct Taken {
     pub place: Place,
     pub at: usize,
-    pub code: u32,
-}
-
-// The line is refused where it stands.
-fn refused(place: Place) -> Moved
-    ensures { result ≡ refused_at place }
-{
-    Moved {
-        place: place,
-        code: NOT_FIGURES,
-    }
+    pub told: Result<(), Refusal>,
 }
 
 // Whether a byte is no digit, or stands behind a 0 in front.
 fn misplaced(b: u8, place: Place) -> bool
     ensures { result ≡ misplaced b place }
 {
-    either(
-        either(b < ZERO, NINE < b),
-        both(place.begun, place.value == 0),
-    )
+    !b.is_ascii_digit() || place.begun && place.value == 0
 }
 
-// A digit goes on with a number, or begins one, and a number is at most 4,294,967,295.
-fn digit(b: u8, place: Place) -> Moved
-    ensures { result ≡ digit_of b place }
+// A digit goes on with a number, or begins one, and a number is at most 4,294,967,295; none where it cannot.
+fn digit(b: u8, place: Place) -> Option<Place>
+    ensures { moved_of place result ≡ digit_of b place }
 {
     if misplaced(b, place) {
-        return refused(place);
+        return None;
     }
-    let value = 10 * place.value as u64 + (b - ZERO) as u64;
-    if value > MOST_32 as u64 {
-        return refused(place);
-    }
-    Moved {
-        place: Place {
-            line: place.line,
-            count: place.count,
-            begun: true,
-            value: value as u32,
-        },
-        code: 0,
-    }
+    let tens = place.value.checked_mul(10)?;
+    let value = tens.checked_add(u32::from(b - b'0'))?;
+    Some(Place {
+        begun: true,
+        value,
+        ..place
+    })
 }
 
 // The end of a number, which joins those of its line in lent memory, if it has begun and there is room.
-fn end_number(place: Place, numbers: &mut [u32]) -> Moved
-    ensures answer { result ≡ end_of place (length numbers.old) }
+fn end_number(place: Place, numbers: &mut [u32]) -> Option<Place>
+    ensures answer { moved_of place result ≡ end_of place (length numbers.old) }
     ensures kept { numbers.new ≡ numbers_after place numbers.old }
 {
     let count = place.count;
-    if both(place.begun, count < numbers.len()) {
+    if place.begun && count < numbers.len() {
         numbers[count] = place.value;
-        Moved {
-            place: Place {
-                line: place.line,
-                count: count + 1,
-                begun: false,
-                value: 0,
-            },
-            code: 0,
-        }
+        Some(Place {
+            count: count + 1,
+            begun: false,
+            value: 0,
+            ..place
+        })
     } else {
-        refused(place)
+        None
     }
 }
 
-// A byte that writes nothing leaves the output as it is.
-fn silent(m: Moved, at: usize) -> Taken
-    ensures { result ≡ keeping m at }
+// A byte that writes nothing leaves the output as it is. The line goes on, or is refused where it stands as numbers are
+// that are not one event.
+fn silent(place: Place, next: Option<Place>, at: usize) -> Taken
+    ensures { Keeps (moved_of place next) at result }
 {
-    let place = m.place;
-    Taken {
-        place: place,
-        at: at,
-        code: m.code,
+    match next {
+        Some(place) => Taken {
+            place,
+            at,
+            told: Ok(()),
+        },
+        None => Taken {
+            place,
+            at,
+            told: Err(Refusal::NotOneEvent),
+        },
     }
 }
 
@@ -120,7 +89,7 @@ fn write_event(place: Place, numbers: &[u32], out: &mut [u8], at: usize) -> Take
     let count = place.count;
     let written = write(&numbers[..count], &mut out[at..]);
     match written {
-        Written::Used(n) => Taken {
+        Ok(n) => Taken {
             place: Place {
                 line: place.line + 1,
                 count: 0,
@@ -128,12 +97,12 @@ fn write_event(place: Place, numbers: &[u32], out: &mut [u8], at: usize) -> Take
                 value: 0,
             },
             at: at + n,
-            code: 0,
+            told: Ok(()),
         },
-        Written::Refused(code) => Taken {
-            place: place,
-            at: at,
-            code: code,
+        Err(why) => Taken {
+            place,
+            at,
+            told: Err(why),
         },
     }
 }
@@ -144,12 +113,10 @@ fn end_line(place: Place, numbers: &mut [u32], out: &mut [u8], at: usize) -> Tak
     ensures { TakesTo (line_end (length out.old - at) (reader_of place numbers.old))
         out.old at result numbers.new out.new }
 {
-    let ended = end_number(place, numbers);
-    if ended.code > 0 {
-        return silent(ended, at);
-    }
-    let place = ended.place;
-    write_event(place, numbers, out, at)
+    let Some(ended) = end_number(place, numbers) else {
+        return silent(place, None, at);
+    };
+    write_event(ended, numbers, out, at)
 }
 
 // What a byte leaves.
@@ -162,7 +129,7 @@ pub(crate) fn take(b: u8, place: Place, numbers: &mut [u32], out: &mut [u8], at:
         return end_line(place, numbers, out, at);
     }
     if b == SPACE {
-        return silent(end_number(place, numbers), at);
+        return silent(place, end_number(place, numbers), at);
     }
-    silent(digit(b, place), at)
+    silent(place, digit(b, place), at)
 }

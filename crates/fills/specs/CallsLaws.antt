@@ -1,5 +1,5 @@
 -- Laws of the calls turn and open with a row of fills lent.
-use Rattle.std.specs.Prelude.{◌≡◌, refl, true, false, List, ℕ, ◌≤◌, ◌<◌, length, ltb}
+use Rattle.std.specs.Prelude.{Option, Some, None, ◌≡◌, refl, true, false, List, ℕ, ◌≤◌, ◌<◌, length, ltb}
 use Rattle.std.proofs.Common.{sym, ap, ◌∙◌, arith, ltb-false, lt-ltb}
 use Rattle.units.specs.Tests.{is_not, pick, picked}
 use Rattle.rows.specs.Rows.{rows}
@@ -15,12 +15,10 @@ use Rattle.entry.specs.declared.Entry.{Entry}
 use Rattle.dealing.specs.Floor.{Floor}
 use Rattle.dealing.specs.Deal.{rests, trades, dealt}
 use Rattle.dealing.specs.DealLaws.{dealt_by}
-use Rattle.lanes.specs.declared.Served.{Served}
-use Rattle.lanes.specs.declared.Served.TheVariants.{Lane, Nobody}
 use Rattle.lanes.specs.Rotation.{served}
 use Rattle.session.specs.declared.Session.{Session}
-use Rattle.session.specs.declared.TurnAnswer.TheVariants as answer
-use Rattle.session.specs.declared.OpenAnswer.TheVariants as opened
+use Rattle.session.specs.TurnAnswer as answer
+use Rattle.session.specs.OpenAnswer as opened
 use Rattle.session.specs.TurnLaws.{refused_6}
 use Rattle.session.specs.Market.{Market, Done, floor_on}
 use Rattle.session.specs.Turn.{turn_refusal, turn_of, turn_of_lane, turn_cases, once_taken, head_entry, answer_of, fills_in}
@@ -40,9 +38,9 @@ entry_few f t e = dealt_by f t e (λ d. (was : List ℕ) → fills_in (answer_of
     (λ o was. omega arith)
     (λ o bound was. records_most _)
 
-lane_few : (was : List ℕ) (m : Market) (l : Served) → Few fills_in m.book.places (turn_of_lane m was l)
-lane_few was m (Lane t) = entry_few (floor_on (once_taken m t).session m.book) t (head_entry m t) was
-lane_few was m Nobody = omega arith
+lane_few : (was : List ℕ) (m : Market) (l : Option ℕ) → Few fills_in m.book.places (turn_of_lane m was l)
+lane_few was m (Some t) = entry_few (floor_on (once_taken m t).session m.book) t (head_entry m t) was
+lane_few was m None = omega arith
 
 -- a turn that is not refused has 216 records lent
 turn_lent : (s : Session) (lent : ℕ) → ltb 0 (turn_refusal s lent) ≡ false → rows ≤ lent
@@ -107,7 +105,7 @@ pub refused_open_as_found : (m : Market) (row : List Fill) (code : ℕ) → (ope
 refused_open_as_found m row code h = as_found fills_opened (open_of m (length row) blank) row (ap fills_opened h)
 
 -- 6 fewer than 216 fills lent, where a turn would be taken
-pub turn_few_lent : (m : Market) (row : List Fill) (t : ℕ) → m.session.accepted ≡ true → served m.session.lanes ≡ Lane t → length row < rows
+pub turn_few_lent : (m : Market) (row : List Fill) (t : ℕ) → m.session.accepted ≡ true → served m.session.lanes ≡ Some t → length row < rows
     → (turn_with m row).answer ≡ answer.Refused 6
 unfolding turn_of pick
 turn_few_lent m row t set busy few =

@@ -1,5 +1,5 @@
 -- What flat numbers the records were written over makes no difference to the row of fills.
-use Rattle.std.specs.Prelude.{◌≡◌, refl, Bool, true, false, List, ℕ, ◌+◌, ◌*◌, ◌<◌, length}
+use Rattle.std.specs.Prelude.{Option, Some, None, ◌≡◌, refl, Bool, true, false, List, ℕ, ◌+◌, ◌*◌, ◌<◌, length}
 use Rattle.std.proofs.Common.{sym, ap, ◌∙◌, add-zero, arith}
 use Rattle.units.specs.Units.{cents, contracts}
 use Rattle.units.specs.Tests.{pick}
@@ -16,8 +16,6 @@ use Rattle.entry.specs.declared.Entry.{Entry}
 use Rattle.dealing.specs.Floor.{Floor}
 use Rattle.dealing.specs.Deal.{rests, trades, dealt}
 use Rattle.dealing.specs.DealLaws.{dealt_by}
-use Rattle.lanes.specs.declared.Served.{Served}
-use Rattle.lanes.specs.declared.Served.TheVariants.{Lane, Nobody}
 use Rattle.lanes.specs.Rotation.{served}
 use Rattle.session.specs.Market.{Market, Done, floor_on}
 use Rattle.session.specs.Turn.{turn_of, turn_of_lane, once_taken, head_entry, turn_made, fills_in}
@@ -74,9 +72,9 @@ module _ (was was' : List ℕ) where
       (λ o. none_written fills_in _ _ was was' refl)
       (λ o bound. record { market = refl; answer = refl; records = λ k l. written_same _ _ _ was was' k l })
 
-  lane_alike : (m : Market) (l : Served) → Alike fills_in (turn_of_lane m was l) (turn_of_lane m was' l)
-  lane_alike m (Lane t) = entry_alike (once_taken m t) (floor_on (once_taken m t).session m.book) t (head_entry m t)
-  lane_alike m Nobody = none_written fills_in _ _ was was' refl
+  lane_alike : (m : Market) (l : Option ℕ) → Alike fills_in (turn_of_lane m was l) (turn_of_lane m was' l)
+  lane_alike m (Some t) = entry_alike (once_taken m t) (floor_on (once_taken m t).session m.book) t (head_entry m t)
+  lane_alike m None = none_written fills_in _ _ was was' refl
 
   turn_alike : (m : Market) (lent : ℕ) → Alike fills_in (turn_of m lent was) (turn_of m lent was')
   unfolding turn_of

@@ -6,20 +6,20 @@ pub mod on_row;
 ghost use Rattle.std.specs.Prelude.{◌≡◌, List, ℕ, ◌*◌, ◌<◌};
 ghost use Rattle.rows.specs.Rows.{rows};
 ghost use Rattle.book.specs.Fills.{fill_at, stored, Fits};
-ghost use Rattle.book.specs.Lent.{after, given_sizing, before_sizing, after_sizing};
-ghost use Rattle.session.specs.Market.{market_of, market_lent_turning, market_found_turning, market_left_turning};
+ghost use Rattle.book.specs.Lent.{book_in};
+ghost use Rattle.session.specs.Market.{market_in};
+ghost use Rattle.session.specs.TurnAnswer.{turn_answer_of};
+ghost use Rattle.session.specs.OpenAnswer.{open_answer_of};
 ghost use Rattle.session.specs.Sound.{Sound, BookSound};
 ghost use Rattle.session.specs.Turn.{printed, fills_in};
 ghost use Rattle.session.specs.Open.{printed as printed_open, fills_in as fills_opened};
-ghost use Rattle.fills.specs.Calls.{turn_stored, turn_with, open_stored, open_with};
+ghost use Rattle.fills.specs.Calls.{turn_kept, turn_with, open_kept, open_with};
 
 use book::records::FIELDS;
-use book::{Fill, Records};
+use book::{Book, Fill, Records};
+use entry::refusal::Refusal;
 use lanes::Entries;
-use rows::Column;
-use session::open::open_core;
-use session::turn::turn_core;
-use session::{OpenAnswer, Opened, Session, TurnAnswer, Turned};
+use session::{Opening, Session, Taken};
 use units::{Cents, Contracts};
 
 // What the flat records begin with. Any number does, since only what is written is stored; with 0 the compiler would
@@ -41,26 +41,22 @@ fn record_at(records: &Records, i: usize) -> Fill
 }
 
 // How many fills a turn wrote.
-pub fn turn_fills(t: Turned) -> usize
-    ensures { result ≡ fills_in t.answer }
+pub fn turn_fills(answer: Result<Taken, Refusal>) -> usize
+    ensures { result ≡ fills_in (turn_answer_of answer) }
 {
-    let answer = t.answer;
     match answer {
-        TurnAnswer::Refused(_) => 0,
-        TurnAnswer::TurnedDown(_, _) => 0,
-        TurnAnswer::Cancelled(_, _) => 0,
-        TurnAnswer::Accepted(_, _, _, _, fills) => fills,
+        Ok(Taken::Accepted(_, _, _, _, fills)) => fills,
+        _ => 0,
     }
 }
 
 // How many fills an opening wrote.
-fn open_fills(o: Opened) -> usize
-    ensures { result ≡ fills_opened o.answer }
+fn open_fills(answer: Result<Opening, Refusal>) -> usize
+    ensures { result ≡ fills_opened (open_answer_of answer) }
 {
-    let answer = o.answer;
     match answer {
-        OpenAnswer::Refused(_) => 0,
-        OpenAnswer::AtPrice(_, _, fills) => fills,
+        Ok(opening) => opening.fills,
+        Err(_) => 0,
     }
 }
 
@@ -69,78 +65,43 @@ fn store_all(fills: &mut [Fill], records: &Records, count: usize)
     requires { Fits count fills.old }
     ensures { fills.new ≡ stored records.now count fills.old }
 {
-    let mut i = 0;
-    while i < count {
+    for i in 0..count {
         fills[i] = record_at(records, i);
-        i += 1;
     }
 }
 
 // The call turn.
 pub fn turn(
-    s: Session,
-    sides: &mut Column,
-    prices: &mut Column,
-    sizes: &mut Column,
-    owners: &mut Column,
-    numbers: &mut Column,
+    s: &mut Session,
+    book: &mut Book,
     entries: &Entries,
     fills: &mut [Fill],
-) -> Turned
-    requires { Sound (market_lent_turning s sides prices sizes owners numbers entries) }
-    ensures exact { turn_stored result (after sides prices sizes owners numbers) entries.now fills.new
-        ≡ turn_with (market_found_turning s sides prices sizes owners numbers entries) fills.old }
-    ensures sound { Sound (market_left_turning result.session sides prices sizes owners numbers entries) }
-    ensures values { printed result.answer
-        ≡ printed (turn_with (market_found_turning s sides prices sizes owners numbers entries) fills.old).answer }
+) -> Result<Taken, Refusal>
+    requires { Sound (market_in s.old book.old entries.now) }
+    ensures exact { turn_kept s.new result (book_in book.new) entries.now fills.new
+        ≡ turn_with (market_in s.old book.old entries.now) fills.old }
+    ensures sound { Sound (market_in s.new book.new entries.now) }
+    ensures values { printed (turn_answer_of result)
+        ≡ printed (turn_with (market_in s.old book.old entries.now) fills.old).answer }
 {
     let mut records = [UNWRITTEN; 864];
-    let turned = turn_core(
-        s,
-        sides,
-        prices,
-        sizes,
-        owners,
-        numbers,
-        entries,
-        fills.len(),
-        &mut records,
-    );
-    let count = turn_fills(turned);
-    store_all(fills, &records, count);
-    turned
+    let answer = s.turn_core(book, entries, fills.len(), &mut records);
+    store_all(fills, &records, turn_fills(answer));
+    answer
 }
 
 // The call open.
-pub fn open(
-    s: Session,
-    sides: &Column,
-    prices: &Column,
-    sizes: &mut Column,
-    owners: &Column,
-    numbers: &Column,
-    fills: &mut [Fill],
-) -> Opened
-    requires { BookSound s (given_sizing sides prices sizes owners numbers) }
-    ensures exact { (entries : List ℕ) → open_stored result (after_sizing sides prices sizes owners numbers) entries fills.new
-        ≡ open_with (market_of s (before_sizing sides prices sizes owners numbers) entries) fills.old }
-    ensures sound { (entries : List ℕ) → Sound (market_of s (before_sizing sides prices sizes owners numbers) entries)
-        → Sound (market_of result.session (after_sizing sides prices sizes owners numbers) entries) }
-    ensures values { (entries : List ℕ) → printed_open result.answer
-        ≡ printed_open (open_with (market_of s (before_sizing sides prices sizes owners numbers) entries) fills.old).answer }
+pub fn open(s: &mut Session, book: &mut Book, fills: &mut [Fill]) -> Result<Opening, Refusal>
+    requires { BookSound s.old (book_in book.old) }
+    ensures exact { (entries : List ℕ) → open_kept s.new result (book_in book.new) entries fills.new
+        ≡ open_with (market_in s.old book.old entries) fills.old }
+    ensures sound { (entries : List ℕ) → Sound (market_in s.old book.old entries)
+        → Sound (market_in s.new book.new entries) }
+    ensures values { (entries : List ℕ) → printed_open (open_answer_of result)
+        ≡ printed_open (open_with (market_in s.old book.old entries) fills.old).answer }
 {
     let mut records = [UNWRITTEN; 864];
-    let opened = open_core(
-        s,
-        sides,
-        prices,
-        sizes,
-        owners,
-        numbers,
-        fills.len(),
-        &mut records,
-    );
-    let count = open_fills(opened);
-    store_all(fills, &records, count);
-    opened
+    let answer = s.open_core(book, fills.len(), &mut records);
+    store_all(fills, &records, open_fills(answer));
+    answer
 }

@@ -1,30 +1,25 @@
 // The calls turn and open with a row of their own: it is lent to the call, and returned beside what the call answered.
 ghost use Rattle.std.specs.Prelude.{◌≡◌, List, ℕ};
-ghost use Rattle.book.specs.Lent.{after, given_sizing, before_sizing, after_sizing};
-ghost use Rattle.session.specs.Market.{market_of, market_lent_turning, market_found_turning, market_left_turning};
+ghost use Rattle.book.specs.Lent.{book_in};
+ghost use Rattle.session.specs.Market.{market_in};
+ghost use Rattle.session.specs.TurnAnswer.{turn_answer_of};
+ghost use Rattle.session.specs.OpenAnswer.{open_answer_of};
 ghost use Rattle.session.specs.Sound.{Sound, BookSound};
 ghost use Rattle.session.specs.Turn.{printed};
 ghost use Rattle.session.specs.Open.{printed as printed_open};
-ghost use Rattle.fills.specs.Calls.{empty_row, turn_stored, turn_with, open_stored, open_with};
+ghost use Rattle.fills.specs.Calls.{empty_row, turn_kept, turn_with, open_kept, open_with};
 
 use crate::{open, turn};
-use book::Fill;
+use book::{Book, Fill};
+use entry::refusal::Refusal;
 use lanes::Entries;
-use rows::Column;
-use session::{Opened, Session, Turned};
+use session::{Opening, Session, Taken};
 use units::{Cents, Contracts};
 
-// What a turn answered, and the row of fills that it left.
+// What a call returned, and the row of fills that it left.
 #[derive(Clone, Copy)]
-pub struct TurnedRow {
-    pub turned: Turned,
-    pub row: [Fill; 216],
-}
-
-// What an opening answered, and the row of fills that it left.
-#[derive(Clone, Copy)]
-pub struct OpenedRow {
-    pub opened: Opened,
+pub struct OnRow<T> {
+    pub returned: T,
     pub row: [Fill; 216],
 }
 
@@ -44,64 +39,35 @@ pub(crate) fn no_fills() -> [Fill; 216]
     [none; 216]
 }
 
-fn turned_row(turned: Turned, row: [Fill; 216]) -> TurnedRow
-    ensures { result ≡ record { turned = turned; row = row } }
-{
-    TurnedRow {
-        turned: turned,
-        row: row,
-    }
-}
-
-fn opened_row(opened: Opened, row: [Fill; 216]) -> OpenedRow
-    ensures { result ≡ record { opened = opened; row = row } }
-{
-    OpenedRow {
-        opened: opened,
-        row: row,
-    }
-}
-
 // A turn, with a row of empty fills.
 pub fn turn_on_row(
-    s: Session,
-    sides: &mut Column,
-    prices: &mut Column,
-    sizes: &mut Column,
-    owners: &mut Column,
-    numbers: &mut Column,
+    s: &mut Session,
+    book: &mut Book,
     entries: &Entries,
-) -> TurnedRow
-    requires { Sound (market_lent_turning s sides prices sizes owners numbers entries) }
-    ensures exact { turn_stored result.turned (after sides prices sizes owners numbers) entries.now result.row
-        ≡ turn_with (market_found_turning s sides prices sizes owners numbers entries) empty_row }
-    ensures sound { Sound (market_left_turning result.turned.session sides prices sizes owners numbers entries) }
-    ensures values { printed result.turned.answer
-        ≡ printed (turn_with (market_found_turning s sides prices sizes owners numbers entries) empty_row).answer }
+) -> OnRow<Result<Taken, Refusal>>
+    requires { Sound (market_in s.old book.old entries.now) }
+    ensures exact { turn_kept s.new result.returned (book_in book.new) entries.now result.row
+        ≡ turn_with (market_in s.old book.old entries.now) empty_row }
+    ensures sound { Sound (market_in s.new book.new entries.now) }
+    ensures values { printed (turn_answer_of result.returned)
+        ≡ printed (turn_with (market_in s.old book.old entries.now) empty_row).answer }
 {
     let mut row = no_fills();
-    let turned = turn(s, sides, prices, sizes, owners, numbers, entries, &mut row);
-    turned_row(turned, row)
+    let returned = turn(s, book, entries, &mut row);
+    OnRow { returned, row }
 }
 
 // An open, with a row of empty fills.
-pub fn open_on_row(
-    s: Session,
-    sides: &Column,
-    prices: &Column,
-    sizes: &mut Column,
-    owners: &Column,
-    numbers: &Column,
-) -> OpenedRow
-    requires { BookSound s (given_sizing sides prices sizes owners numbers) }
-    ensures exact { (entries : List ℕ) → open_stored result.opened (after_sizing sides prices sizes owners numbers) entries result.row
-        ≡ open_with (market_of s (before_sizing sides prices sizes owners numbers) entries) empty_row }
-    ensures sound { (entries : List ℕ) → Sound (market_of s (before_sizing sides prices sizes owners numbers) entries)
-        → Sound (market_of result.opened.session (after_sizing sides prices sizes owners numbers) entries) }
-    ensures values { (entries : List ℕ) → printed_open result.opened.answer
-        ≡ printed_open (open_with (market_of s (before_sizing sides prices sizes owners numbers) entries) empty_row).answer }
+pub fn open_on_row(s: &mut Session, book: &mut Book) -> OnRow<Result<Opening, Refusal>>
+    requires { BookSound s.old (book_in book.old) }
+    ensures exact { (entries : List ℕ) → open_kept s.new result.returned (book_in book.new) entries result.row
+        ≡ open_with (market_in s.old book.old entries) empty_row }
+    ensures sound { (entries : List ℕ) → Sound (market_in s.old book.old entries)
+        → Sound (market_in s.new book.new entries) }
+    ensures values { (entries : List ℕ) → printed_open (open_answer_of result.returned)
+        ≡ printed_open (open_with (market_in s.old book.old entries) empty_row).answer }
 {
     let mut row = no_fills();
-    let opened = open(s, sides, prices, sizes, owners, numbers, &mut row);
-    opened_row(opened, row)
+    let returned = open(s, book, &mut row);
+    OnRow { returned, row }
 }

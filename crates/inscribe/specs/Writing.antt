@@ -8,13 +8,13 @@ use Rattle.tape.specs.Depth.{most_numbers}
 use Rattle.window.specs.declared.Filled.{Filled}
 use Rattle.window.specs.Window.{window_long, Refilled}
 use Rattle.window.specs.WindowLaws.{read_behind}
-use Rattle.window.specs.Program.{going, Stopped, status_of, stops_status}
+use Rattle.window.specs.Program.{going, failed, Stopped, status_of, stops_status}
 use Rattle.figures.specs.declared.Place.{Place}
-use Rattle.figures.specs.declared.Next.TheVariants.{Read, Write, Stop}
+use Rattle.figures.specs.Next.{Read, Write, Stop}
 use Rattle.figures.specs.declared.Inscribed.{Inscribed}
 use Rattle.figures.specs.Reading.{line_start, reader_of}
 use Rattle.figures.specs.Whole.{Inscription, ◌before◌, ending_of}
-use Rattle.figures.specs.Inscribing.{Inscribing, inscribe_of, CanInscribe, InscribesTo}
+use Rattle.figures.specs.Inscribing.{next_of, Inscribing, inscribe_of, CanInscribe, InscribesTo}
 use Rattle.figures.specs.Running.{output_long, Standing, at_start, made_from, made, filled, emptied, Run, reads, meets_end, writes, stops}
 use Rattle.figures.specs.RunningLaws.{before_twice, leaves_from}
 
@@ -123,7 +123,7 @@ module _ {p : Place} {numbers window out : List ℕ} {at from to : ℕ} {more : 
         let room : output_long - length (take at out) ≡ length out - at = omega (arith, w.out_long, w.written, length-take at out) in
         rw room
 
-    next_is : d.next ≡ (made_from st).next
+    next_is : next_of d.next ≡ (made_from st).next
     next_is = rw is_made_from is.next
 
     -- what was made lies in its memory
@@ -163,7 +163,7 @@ module _ {p : Place} {numbers window out : List ℕ} {at from to : ℕ} {more : 
     fits_output = omega (arith, written_fits, lent_long)
 
     -- a turn that reads the text
-    module _ (goes : status ≡ going) (e : d.next ≡ Read) {next : List ℕ} {f : Filled} (g : Refilled window d.from to 0 next f) where
+    module _ (goes : status ≡ going) (e : next_of d.next ≡ Read) {next : List ℕ} {f : Filled} (g : Refilled window d.from to 0 next f) where
       abbrev part : List ℕ
       part = drop (to - d.from) (take f.to next)
 
@@ -176,8 +176,8 @@ module _ {p : Place} {numbers window out : List ℕ} {at from to : ℕ} {more : 
           rw (read_behind on_hand (omega (arith, w.within, w.window_long_lem)) g, empty, none)
           (subst (λ (s : Standing). CameTo (filled [] false s)) is_made (came_to_end (w.came goes) (sym next_is ∙ e)))
 
-      pub turn_reads : 0 < turns → {told : ℕ} → (Stopped told → ⊥) → Writing d.place next_numbers next lent d.at 0 f.to f.more code told (turns - 1)
-      turn_reads h on = record {
+      pub turn_reads : 0 < turns → Writing d.place next_numbers next lent d.at 0 f.to f.more code status (turns - 1)
+      turn_reads h = record {
         numbers_long = same;
         window_long_lem = g.long ∙ w.window_long_lem;
         out_long = lent_long;
@@ -186,7 +186,21 @@ module _ {p : Place} {numbers window out : List ℕ} {at from to : ℕ} {more : 
         within = omega (arith, g.most, g.long, w.window_long_lem);
         bounded = omega (arith, w.bounded, few_lines, w.within);
         came = λ _. came_on f.more refl;
-        stopped = λ stop. absurd (on stop);
+        stopped = λ stop. absurd (omega arith);
+      }
+
+      -- or cannot read it
+      pub turn_fails : 0 < turns → Writing d.place next_numbers next lent d.at d.from to more code failed (turns - 1)
+      turn_fails h = record {
+        numbers_long = same;
+        window_long_lem = g.long ∙ w.window_long_lem;
+        out_long = lent_long;
+        written = written_fits;
+        begun = on_hand;
+        within = w.within;
+        bounded = omega (arith, w.bounded, few_lines, w.within);
+        came = λ on. absurd (omega arith);
+        stopped = λ stop. absurd (omega arith);
       }
 
     -- a turn that does not: the output is written out, or the text has stopped
@@ -205,12 +219,12 @@ module _ {p : Place} {numbers window out : List ℕ} {at from to : ℕ} {more : 
     }
 
     module _ (h : 0 < turns) (goes : status ≡ going) where
-      pub turn_writes : d.next ≡ Write → {told : ℕ} → (Stopped told → ⊥) → Writing d.place next_numbers window lent 0 d.from to more code told (turns - 1)
+      pub turn_writes : next_of d.next ≡ Write → {told : ℕ} → (Stopped told → ⊥) → Writing d.place next_numbers window lent 0 d.from to more code told (turns - 1)
       turn_writes e on =
           stays (omega arith) (λ _. subst (λ (s : Standing). CameTo (emptied s)) is_made (came_writing (w.came goes) (sym next_is ∙ e)))
           (λ stop. absurd (on stop)) h
 
-      pub turn_stops : {how told : ℕ} → d.next ≡ Stop how → told ≡ status_of how → Writing d.place next_numbers window lent d.at d.from to more how told (turns - 1)
-      turn_stops {how} e is =
-          stays written_fits (λ on. absurd (omega (arith, stops_status how)))
+      pub turn_stops : {how told : ℕ} → next_of d.next ≡ Stop how → (well : Bool) → told ≡ status_of well → Writing d.place next_numbers window lent d.at d.from to more how told (turns - 1)
+      turn_stops {how} e well is =
+          stays written_fits (λ on. absurd (omega (arith, stops_status well)))
           (λ _. subst (λ (s : Standing). CameToStop s.reader.place s.written how) is_made (came_to_stop (w.came goes) (sym next_is ∙ e))) h

@@ -8,19 +8,20 @@
 
 use figures::{Next, Place, inscribe};
 use tape::MOST_NUMBERS;
-use window::program::{
-    FAILED, GOING, TURNS, flush, opened, status_after, status_of, tell, tell_line,
-};
+use window::program::{Status, TURNS, flush, opened, status_of, tell, tell_line};
 use window::{WINDOW, refill};
+use writer::Refusal;
 
 // Tells the refused line, where there is one.
-fn tell_refused(rt: &HostRuntime, code: u32, line: u64) {
-    tell_line(rt, b"write ", code, line);
+fn tell_refused(rt: &HostRuntime, told: Result<(), Refusal>, line: u64) {
+    if let Err(why) = told {
+        tell_line(rt, b"write ", why.number(), line);
+    }
 }
 
 fn main(rt: HostRuntime) {
     let Some(mut source) = opened(&rt, 1, b"text") else {
-        tell(FAILED);
+        tell(Status::Failed);
         return;
     };
     let mut place = Place::new();
@@ -31,38 +32,38 @@ fn main(rt: HostRuntime) {
     let mut from: usize = 0;
     let mut to: usize = 0;
     let mut more = true;
-    let mut code: u32 = 0;
-    let mut status = GOING;
+    let mut told = Ok(());
+    let mut status = Status::Going;
     let mut turns = TURNS;
-    while turns > 0 && status == GOING {
+    while turns > 0 && status == Status::Going {
         turns -= 1;
         let done = inscribe(&window[..to], more, from, place, &mut numbers, &mut out, at);
         place = done.place;
         at = done.at;
         from = done.from;
-        let next = done.next;
-        match next {
-            Next::Read => {
-                let filled = refill(&mut source, &mut window, from, to, 0);
-                from = 0;
-                to = filled.to;
-                more = filled.more;
-                status = status_after(filled.failed);
-            }
+        match done.next {
+            Next::Read => match refill(&mut source, &mut window, from, to, 0) {
+                Ok(filled) => {
+                    from = 0;
+                    to = filled.to;
+                    more = filled.more;
+                }
+                Err(_) => status = Status::Failed,
+            },
             Next::Write => {
                 status = flush(&rt, &out, at);
                 at = 0;
             }
             Next::Stop(how) => {
-                code = how;
-                status = status_of(how);
+                told = how;
+                status = status_of(told.is_ok());
             }
         }
     }
-    if flush(&rt, &out, at) == GOING && status != FAILED {
-        tell_refused(&rt, code, place.line);
+    if flush(&rt, &out, at) == Status::Going && status != Status::Failed {
+        tell_refused(&rt, told, place.line);
         tell(status);
     } else {
-        tell(FAILED);
+        tell(Status::Failed);
     }
 }

@@ -11,7 +11,7 @@ use Rattle.entry.specs.declared.Terms.{Terms}
 use Rattle.entry.specs.Quotes.{lower_offer, quotes_of}
 use Rattle.checks.specs.declared.Standing.{Standing}
 use Rattle.checks.specs.TurnDown.{not_yet, off_grid, at_strike, no_offer, unbid, no_bid, converts, as_judged, above_percent, too_wide, far_buy, far_sell, far_price, might_rest, no_room, used_up, turn_down}
-use Rattle.judge.specs.declared.Judged.TheVariants.{TurnedDown, Trades}
+use Rattle.judge.specs.Judged.{TurnedDown, Trades}
 use Rattle.judge.specs.Bound.{sell_bound, bound_of}
 use Rattle.judge.specs.Disposition.{beyond_drill, at_away, disposition_of}
 use Rattle.judge.specs.Verdict.{verdict}

@@ -6,8 +6,7 @@ use Rattle.entry.specs.declared.Quotes.{Quotes}
 use Rattle.entry.specs.declared.Terms.{Terms}
 use Rattle.checks.specs.declared.Standing.{Standing}
 use Rattle.checks.specs.TurnDown.{as_judged, turn_down}
-use Rattle.judge.specs.declared.Judged.{Judged}
-use Rattle.judge.specs.declared.Judged.TheVariants.{TurnedDown, Rests, Trades}
+use Rattle.judge.specs.Judged.{Judged, TurnedDown, Rests, Trades}
 use Rattle.judge.specs.Bound.{bound_of}
 
 -- turned down; or, once open, it trades within its bound; before opening a day limit simply rests

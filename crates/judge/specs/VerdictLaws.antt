@@ -18,8 +18,7 @@ use Rattle.checks.specs.declared.Standing.{Standing}
 use Rattle.checks.specs.AsJudgedLaws.{day_limit_might_rest, judged_proper}
 use Rattle.checks.specs.TurnDown.{as_judged, might_rest, turn_down}
 use Rattle.checks.specs.TurnDownLaws.{number_left, room_left, day_limit, unchanged}
-use Rattle.judge.specs.declared.Judged.{Judged}
-use Rattle.judge.specs.declared.Judged.TheVariants.{TurnedDown, Rests, Trades}
+use Rattle.judge.specs.Judged.{Judged, TurnedDown, Rests, Trades}
 use Rattle.judge.specs.Bound.{bound_of}
 use Rattle.judge.specs.BoundLaws.{judged_rests}
 use Rattle.judge.specs.Disposition.{disposition_of}

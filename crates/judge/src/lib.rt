@@ -7,13 +7,12 @@ use units::Cents;
 
 mod bound;
 pub mod disposition;
+pub mod outcome;
 pub mod verdict;
 
-// A new order is turned down by a number; or it rests before the opening, and trades within a bound after it, as
-// judged.
+// A new order that is not turned down rests before the opening, and trades within a bound after it, as judged.
 #[derive(Clone, Copy)]
 pub enum Judged {
-    TurnedDown(u32),
     Rests(Entry),
     Trades(Entry, Cents),
 }

@@ -1,25 +1,24 @@
 // The whole judgement of a new order.
 ghost use Rattle.std.specs.Prelude.{◌≡◌};
+ghost use Rattle.judge.specs.JudgedOf.{judged_of};
 ghost use Rattle.judge.specs.Verdict.{verdict};
 
 use crate::Judged;
 use crate::bound::bound;
 use checks::Standing;
 use checks::turn_down::{as_judged, turn_down};
+use entry::refusal::TurnDown;
 use entry::{Entry, Quotes, Terms};
 
-// Turned down by a number; or the order as judged, which before the opening rests and after it trades within its bound.
-pub fn judge(e: Entry, q: Quotes, t: Terms, s: Standing) -> Judged
-    ensures { result ≡ verdict e q t s }
+// Why it is turned down; or the order as judged, which before the opening rests and after it trades within its bound.
+pub fn judge(e: Entry, q: Quotes, t: Terms, s: Standing) -> Result<Judged, TurnDown>
+    ensures { judged_of result ≡ verdict e q t s }
 {
-    let number = turn_down(e, q, t, s);
-    if 0 < number {
-        return Judged::TurnedDown(number);
-    }
+    turn_down(e, q, t, s)?;
     let order = as_judged(e, q, t);
     if s.opened {
-        Judged::Trades(order, bound(order, q, t))
+        Ok(Judged::Trades(order, bound(order, q, t)))
     } else {
-        Judged::Rests(order)
+        Ok(Judged::Rests(order))
     }
 }

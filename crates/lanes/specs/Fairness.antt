@@ -1,6 +1,6 @@
 -- The rotation is fair over any run: no lane gets more than one turn above a lane that has an entry before each of
 -- them, so that such a lane gets a ninth of the turns.
-use Rattle.std.specs.Prelude.{◌≡◌, refl, Bool, ◌≢◌, ℕ, ◌+◌, ◌*◌, ◌-◌, ◌/◌, ◌≤◌, ◌<◌, ltb, length}
+use Rattle.std.specs.Prelude.{◌≡◌, refl, Bool, ◌≢◌, ℕ, ◌+◌, ◌*◌, ◌-◌, ◌/◌, ◌≤◌, ◌<◌, ltb, length, Option, Some, None}
 use Rattle.std.proofs.Common.{sym, ◌∙◌, ap, eq-eqb, ne_eqb, lt-ltb, le-ltb}
 use mathlib.Core.List.{List, [], ◌∷◌}
 use Rattle.std.proofs.Math.Decide.{ℕ_discrete}
@@ -9,8 +9,6 @@ use Rattle.units.specs.Units.{tenants}
 use Rattle.units.specs.Tests.{holds_not_fails, order, less, equal, more}
 use Rattle.units.specs.Sums.{sum_to, sum_le, sum_add, sum_none, sum_only, sum_less}
 use Rattle.units.specs.Picked.{keep, keep_most}
-use Rattle.lanes.specs.declared.Served.{Served}
-use Rattle.lanes.specs.declared.Served.TheVariants.{Lane, Nobody}
 use Rattle.lanes.specs.Rotation.{on, served_by}
 use Rattle.lanes.specs.Runs.{ahead, FirstBusy, moved, counts_for, turns, Always}
 use Rattle.lanes.specs.RotationLaws.{ahead_less, ahead_same, Serves, serves}
@@ -58,16 +56,16 @@ lead_most : (p u t : ℕ) → lead p u t ≤ 1
 unfolding lead
 lead_most p u t = keep_most (ltb (ahead p u) (ahead p t)) 1
 
-counts_own : (u t : ℕ) → t ≡ u → counts_for u (Lane t) ≡ 1
+counts_own : (u t : ℕ) → t ≡ u → counts_for u (Some t) ≡ 1
 counts_own u t h = simp (eq-eqb _ _ h)
 
-counts_other : (u t : ℕ) → t ≢ u → counts_for u (Lane t) ≡ 0
+counts_other : (u t : ℕ) → t ≢ u → counts_for u (Some t) ≡ 0
 counts_other u t h = simp (ne_eqb _ _ h)
 
 module _ (t u : ℕ) (ht : t < tenants) (hu : u < tenants) (apart : u ≢ t) where
   -- a turn of lane l, with the lead before it and the lead after it
   abbrev Step : ℕ → ℕ → Type 0
-  Step p l = counts_for u (Lane l) + lead (on l 1) u t ≤ counts_for t (Lane l) + lead p u t
+  Step p l = counts_for u (Some l) + lead (on l 1) u t ≤ counts_for t (Some l) + lead p u t
 
   lead_step : (busy : ℕ → Bool) (p l : ℕ) → p < tenants → FirstBusy busy p l → ahead p l ≤ ahead p t → Step p l
   lead_step busy p l hp r near = elim (ℕ_discrete l u) [
@@ -98,10 +96,10 @@ module _ (t u : ℕ) (ht : t < tenants) (hu : u < tenants) (apart : u ≢ t) whe
   lead_run [] p hp h = omega arith
   lead_run (busy ∷ run) p hp h = go (served_by busy p) (serves busy p hp) (λ q hq. lead_run run q hq h.1)
     where
-      go : (s : Served) → Serves busy p s → ((q : ℕ) → q < tenants → turns u q run ≤ turns t q run + lead q u t)
+      go : (s : Option ℕ) → Serves busy p s → ((q : ℕ) → q < tenants → turns u q run ≤ turns t q run + lead q u t)
           → counts_for u s + turns u (moved p s) run ≤ counts_for t s + turns t (moved p s) run + lead p u t
-      go (Lane l) r rest = omega (arith, lead_step busy p l hp r (r.nearest t ht h.0), rest (on l 1) (next_less l))
-      go Nobody r rest = absurd (holds_not_fails h.0 (r t ht))
+      go (Some l) r rest = omega (arith, lead_step busy p l hp r (r.nearest t ht h.0), rest (on l 1) (next_less l))
+      go None r rest = absurd (holds_not_fails h.0 (r t ht))
 
 -- no lane has more than one turn above a lane that has an entry before each turn
 pub fair : (t u p : ℕ) (run : List (ℕ → Bool)) → t < tenants → u < tenants → p < tenants → Always t run → turns u p run ≤ turns t p run + 1
@@ -116,13 +114,13 @@ unfolding turns
 turns_all t ht [] p hp h = sum_none tenants (λ i q. refl)
 turns_all t ht (busy ∷ run) p hp h = go (served_by busy p) (serves busy p hp) (λ q hq. turns_all t ht run q hq h.1)
   where
-    go : (s : Served) → Serves busy p s → ((q : ℕ) → q < tenants → sum_to (λ u. turns u q run) tenants ≡ length run)
+    go : (s : Option ℕ) → Serves busy p s → ((q : ℕ) → q < tenants → sum_to (λ u. turns u q run) tenants ≡ length run)
         → sum_to (λ u. counts_for u s + turns u (moved p s) run) tenants ≡ length (busy ∷ run)
-    go (Lane l) r rest =
-        let one = sum_only (λ u. counts_for u (Lane l)) tenants l r.lane (λ j q d. counts_other j l (λ e. d (sym e))) in
-        let both = sum_add (λ u. counts_for u (Lane l)) (λ u. turns u (on l 1) run) {s = λ u. counts_for u (Lane l) + turns u (on l 1) run} tenants (λ i q. refl) in
+    go (Some l) r rest =
+        let one = sum_only (λ u. counts_for u (Some l)) tenants l r.lane (λ j q d. counts_other j l (λ e. d (sym e))) in
+        let both = sum_add (λ u. counts_for u (Some l)) (λ u. turns u (on l 1) run) {s = λ u. counts_for u (Some l) + turns u (on l 1) run} tenants (λ i q. refl) in
         omega (arith, one, both, counts_own l l refl, rest (on l 1) (next_less l))
-    go Nobody r rest = absurd (holds_not_fails h.0 (r t ht))
+    go None r rest = absurd (holds_not_fails h.0 (r t ht))
 
 -- a lane that has an entry before each of n turns gets at least n/9 of them
 pub share : (t p : ℕ) (run : List (ℕ → Bool)) → t < tenants → p < tenants → Always t run → length run / tenants ≤ turns t p run

@@ -1,10 +1,11 @@
 -- The rings: where entries stand, and what putting entries behind those waiting and taking the oldest make of them.
-use Rattle.std.specs.Prelude.{List, ℕ, zero, suc, ◌+◌, ◌-◌, ◌*◌, ◌%◌, set, replicate}
+use Rattle.std.specs.Prelude.{List, ℕ, zero, suc, ◌+◌, ◌-◌, ◌*◌, ◌%◌, get_or, map, set, replicate}
 use Rattle.std.proofs.lemmas.List.Edits.{sets}
 use Rattle.units.specs.Units.{tenants, cents, contracts}
 use Rattle.units.specs.Places.{at, table}
 use Rattle.entry.specs.declared.Entry.{Entry}
 use Rattle.entry.specs.Numbers.{entry_numbers}
+use Rattle.lanes.specs.declared.Lane.{Lane}
 use Rattle.lanes.specs.declared.Lanes.{Lanes}
 
 -- A lane holds 64 entries.
@@ -34,12 +35,27 @@ number_of ns k i = at ns (k * entry_numbers + i)
 unfoldable pub entry_at : List ℕ → ℕ → Entry
 entry_at ns k = entry_of (table (number_of ns k) entry_numbers)
 
+-- a lane whose oldest entry stands at place h of its ring, and in which n entries wait
+abbrev pub lane_of : ℕ → ℕ → Lane
+lane_of h n = record { head = h; len = n }
+
+-- where the oldest entry of each lane stands in its ring, and how many wait in each
+abbrev pub heads : Lanes → List ℕ
+heads l = map (λ x. x.head) l.lanes
+
+abbrev pub lens : Lanes → List ℕ
+lens l = map (λ x. x.len) l.lanes
+
+-- lane t; past the last, one with nothing
+abbrev pub lane_at : Lanes → ℕ → Lane
+lane_at l t = get_or l.lanes t (lane_of 0 0)
+
 -- where lane t's oldest entry stands in its ring, and how many wait
 abbrev pub head_of : Lanes → ℕ → ℕ
-head_of l t = at l.heads t
+head_of l t = (lane_at l t).head
 
 abbrev pub len_of : Lanes → ℕ → ℕ
-len_of l t = at l.lens t
+len_of l t = (lane_at l t).len
 
 -- where the entry of lane t stands that is i behind the ring's place h
 unfoldable pub slot : ℕ → ℕ → ℕ → ℕ
@@ -60,16 +76,12 @@ put_all l entries t ns (suc n) = put (put_all l entries t ns n) (slot t (head_of
 
 -- so many more wait in lane t
 unfoldable pub joined : Lanes → ℕ → ℕ → Lanes
-joined l t n = record { heads = l.heads; lens = set l.lens t (len_of l t + n); place = l.place }
+joined l t n = record { lanes = set l.lanes t (lane_of (head_of l t) (len_of l t + n)); place = l.place }
 
 -- A taken turn removes the head entry of lane t and moves the place to the tenant after it.
 unfoldable pub taken : Lanes → ℕ → Lanes
-taken l t = record {
-  heads = set l.heads t ((head_of l t + 1) % depth);
-  lens = set l.lens t (len_of l t - 1);
-  place = (t + 1) % tenants;
-}
+taken l t = record { lanes = set l.lanes t (lane_of ((head_of l t + 1) % depth) (len_of l t - 1)); place = (t + 1) % tenants }
 
 -- empty lanes, with the rotation at tenant 0
 abbrev pub empty : Lanes
-empty = record { heads = replicate tenants 0; lens = replicate tenants 0; place = 0 }
+empty = record { lanes = replicate tenants (lane_of 0 0); place = 0 }

@@ -2,17 +2,49 @@
 use Rattle.std.specs.Prelude.{◌≡◌, ◌≢◌, List, [], ◌∷◌, ◌++◌, length, set}
 use Rattle.std.proofs.Math.Path.{refl, ap}
 use Rattle.std.proofs.Common.{sym, ◌∙◌, arith}
-use Prim.Native.Nat.{ℕ, zero, suc, ◌+◌, ◌*◌, ◌%◌, ◌≤◌, ◌<◌, min}
+use Prim.Native.Nat.{ℕ, zero, suc, ◌+◌, ◌-◌, ◌*◌, ◌%◌, ◌≤◌, ◌<◌, min}
 use Rattle.std.proofs.Math.Numerals.{add-one}
-use Rattle.std.proofs.Math.ListN.{get_or-eq_default}
+use Rattle.std.proofs.Math.ListN.{get_or-eq_default, get_or-map}
+use Rattle.std.proofs.lemmas.List.{map-set}
 use Rattle.std.proofs.lemmas.List.Edits.{sets}
-use Rattle.std.proofs.Math.Seq.{length-sets}
+use Rattle.std.proofs.Math.Seq.{length-sets, map-set_same}
 use Rattle.units.specs.Units.{tenants}
 use Rattle.units.specs.Places.{at, table, table_length, table_at, table_same, sets_old, sets_new}
 use Rattle.units.specs.Tests.{order, less, equal, more}
 use Rattle.entry.specs.Numbers.{entry_numbers}
 use Rattle.lanes.specs.declared.Lanes.{Lanes}
-use Rattle.lanes.specs.Ring.{depth, all_entries, entry_of, number_of, entry_at, head_of, len_of, slot, put, put_all}
+use Rattle.lanes.specs.Ring.{depth, all_entries, entry_of, number_of, entry_at, lane_of, heads, lens, head_of, len_of, slot, put, put_all, joined, taken}
+
+-- the heads and lengths of all lanes, and lane t's
+module _ (l : Lanes) (t : ℕ) where
+  pub head_at : head_of l t ≡ at (heads l) t
+  head_at = sym (get_or-map (λ x. x.head) l.lanes t (lane_of 0 0))
+
+  pub len_at : len_of l t ≡ at (lens l) t
+  len_at = sym (get_or-map (λ x. x.len) l.lanes t (lane_of 0 0))
+
+-- where n more wait in lane t, no head moves, and lane t alone is longer
+module _ (l : Lanes) (t n : ℕ) where
+  pub heads_joined : heads (joined l t n) ≡ heads l
+  unfolding joined
+  heads_joined = map-set_same (λ x. x.head) l.lanes t (lane_of (head_of l t) (len_of l t + n)) (lane_of 0 0) refl
+
+  pub lens_joined : lens (joined l t n) ≡ set (lens l) t (len_of l t + n)
+  unfolding joined
+  lens_joined = map-set (λ x. x.len) l.lanes t (lane_of (head_of l t) (len_of l t + n))
+
+  pub head_joined : (u : ℕ) → head_of (joined l t n) u ≡ head_of l u
+  head_joined u = head_at (joined l t n) u ∙ ap (λ hs. at hs u) heads_joined ∙ sym (head_at l u)
+
+-- where a turn is taken of lane t, its head alone moves, and it alone is shorter
+module _ (l : Lanes) (t : ℕ) where
+  pub heads_taken : heads (taken l t) ≡ set (heads l) t ((head_of l t + 1) % depth)
+  unfolding taken
+  heads_taken = map-set (λ x. x.head) l.lanes t (lane_of ((head_of l t + 1) % depth) (len_of l t - 1))
+
+  pub lens_taken : lens (taken l t) ≡ set (lens l) t (len_of l t - 1)
+  unfolding taken
+  lens_taken = map-set (λ x. x.len) l.lanes t (lane_of ((head_of l t + 1) % depth) (len_of l t - 1))
 
 pub slot_within : (t h i : ℕ) → t < tenants → slot t h i < tenants * depth
 unfolding slot

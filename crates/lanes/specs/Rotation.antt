@@ -1,11 +1,9 @@
 -- The rotation: the first non-empty lane at or after the place, in order 0 to 8 and round again.
-use Rattle.std.specs.Prelude.{Bool, ℕ, ◌+◌, ◌%◌, ltb}
+use Rattle.std.specs.Prelude.{Bool, ℕ, ◌+◌, ◌%◌, ltb, Option, Some, None}
 use Rattle.units.specs.Units.{tenants}
 use Rattle.units.specs.Tests.{pick}
 use Rattle.units.specs.Firsts.{first_to}
 use Rattle.lanes.specs.declared.Lanes.{Lanes}
-use Rattle.lanes.specs.declared.Served.{Served}
-use Rattle.lanes.specs.declared.Served.TheVariants.{Lane, Nobody}
 use Rattle.lanes.specs.Ring.{len_of}
 
 -- the lane d places on
@@ -21,9 +19,9 @@ unfoldable pub distance : (ℕ → Bool) → ℕ → ℕ
 distance busy place = first_to (λ d. busy (on place d)) tenants
 
 -- the lane that a turn serves, by who waits and the place
-unfoldable pub served_by : (ℕ → Bool) → ℕ → Served
-served_by busy place = pick (ltb (distance busy place) tenants) (Lane (on place (distance busy place))) Nobody
+unfoldable pub served_by : (ℕ → Bool) → ℕ → Option ℕ
+served_by busy place = pick (ltb (distance busy place) tenants) (Some (on place (distance busy place))) None
 
 -- the lane that a turn serves
-unfoldable pub served : Lanes → Served
+unfoldable pub served : Lanes → Option ℕ
 served l = served_by (waits l) l.place

@@ -1,12 +1,10 @@
 -- The lane that a turn serves is the first non-empty one at or after the place, and there is one exactly where some
 -- lane has an entry.
-use Rattle.std.specs.Prelude.{◌≡◌, refl, Bool, false, ◌↔◌, ℕ, ◌≤◌, ◌<◌}
+use Rattle.std.specs.Prelude.{◌≡◌, refl, Bool, false, ◌↔◌, ℕ, ◌≤◌, ◌<◌, Option, Some, None}
 use Rattle.std.proofs.Common.{sym, ◌∙◌, ap, arith, lt-ltb, le-ltb}
 use Rattle.units.specs.Units.{tenants}
 use Rattle.units.specs.Tests.{pick_yes, pick_no, holds_not_fails, order, less, equal, more}
 use Rattle.units.specs.Firsts.{first_holds, first_before, first_least}
-use Rattle.lanes.specs.declared.Served.{Served}
-use Rattle.lanes.specs.declared.Served.TheVariants.{Lane, Nobody}
 use Rattle.lanes.specs.Rotation.{on, distance, served_by}
 use Rattle.lanes.specs.Runs.{ahead, FirstBusy}
 
@@ -28,18 +26,18 @@ pub ahead_same : (p t u : ℕ) → p < tenants → t < tenants → u < tenants �
 ahead_same p t u hp ht hu e = sym (on_ahead p t hp ht) ∙ ap (on p) e ∙ on_ahead p u hp hu
 
 module _ (busy : ℕ → Bool) (p : ℕ) where
-  pub served_lane : distance busy p < tenants → served_by busy p ≡ Lane (on p (distance busy p))
+  pub served_lane : distance busy p < tenants → served_by busy p ≡ Some (on p (distance busy p))
   unfolding served_by
   served_lane h = pick_yes _ _ (lt-ltb _ _ h)
 
-  pub served_nobody : tenants ≤ distance busy p → served_by busy p ≡ Nobody
+  pub served_nobody : tenants ≤ distance busy p → served_by busy p ≡ None
   unfolding served_by
   served_nobody h = pick_no _ _ (le-ltb _ _ h)
 
   -- what an answer of the rotation says
-  abbrev pub Serves : Served → Type 0
-  Serves (Lane t) = FirstBusy busy p t
-  Serves Nobody = (t : ℕ) → t < tenants → busy t ≡ false
+  abbrev pub Serves : Option ℕ → Type 0
+  Serves (Some t) = FirstBusy busy p t
+  Serves None = (t : ℕ) → t < tenants → busy t ≡ false
 
   module _ (hp : p < tenants) where
     distance_first : distance busy p < tenants → FirstBusy busy p (on p (distance busy p))
@@ -70,17 +68,17 @@ module _ (busy : ℕ → Bool) (p : ℕ) where
         ahead_same p t u hp a.lane b.lane (omega (arith, a.nearest u b.lane b.waits, b.nearest t a.lane a.waits))
 
     -- a lane is served exactly where it is the first non-empty one
-    pub served_first : (t : ℕ) → (served_by busy p ≡ Lane t) ↔ FirstBusy busy p t
+    pub served_first : (t : ℕ) → (served_by busy p ≡ Some t) ↔ FirstBusy busy p t
     served_first t = (λ e. rw e at serves, go (served_by busy p) serves)
       where
-        go : (s : Served) → Serves s → FirstBusy busy p t → s ≡ Lane t
-        go (Lane u) r a = ap Lane (first_busy_unique u t r a)
-        go Nobody r a = absurd (holds_not_fails a.waits (r t a.lane))
+        go : (s : Option ℕ) → Serves s → FirstBusy busy p t → s ≡ Some t
+        go (Some u) r a = ap Some (first_busy_unique u t r a)
+        go None r a = absurd (holds_not_fails a.waits (r t a.lane))
 
     -- and nobody exactly where no lane has an entry
-    pub served_none : (served_by busy p ≡ Nobody) ↔ ((t : ℕ) → t < tenants → busy t ≡ false)
+    pub served_none : (served_by busy p ≡ None) ↔ ((t : ℕ) → t < tenants → busy t ≡ false)
     served_none = (λ e. rw e at serves, go (served_by busy p) serves)
       where
-        go : (s : Served) → Serves s → ((t : ℕ) → t < tenants → busy t ≡ false) → s ≡ Nobody
-        go (Lane u) r h = absurd (holds_not_fails r.waits (h u r.lane))
-        go Nobody r h = refl
+        go : (s : Option ℕ) → Serves s → ((t : ℕ) → t < tenants → busy t ≡ false) → s ≡ None
+        go (Some u) r h = absurd (holds_not_fails r.waits (h u r.lane))
+        go None r h = refl

@@ -4,13 +4,15 @@ use Rattle.std.proofs.Math.Path.{sym, ap}
 use Rattle.std.proofs.Common.{◌∙◌, ap₂, arith}
 use Rattle.std.proofs.Math.Decide.{ℕ_discrete}
 use Rattle.std.proofs.Math.Seq.{get_or-set_same, get_or-set_other}
+use Rattle.std.proofs.lemmas.List.{length-map}
 use Rattle.units.specs.Units.{tenants}
 use Rattle.units.specs.Tests.{order, less, equal, more}
 use Rattle.units.specs.Listed.{listed, listed_same, listed_add, listed_first}
 use Rattle.entry.specs.declared.Entry.{Entry}
+use Rattle.lanes.specs.declared.Lane.{Lane}
 use Rattle.lanes.specs.declared.Lanes.{Lanes}
-use Rattle.lanes.specs.Ring.{depth, all_entries, entry_at, head_of, len_of, slot, waiting_at, put_all, joined, taken}
-use Rattle.lanes.specs.RingLaws.{slot_apart, slot_other, slot_next, put_all_old, put_all_new}
+use Rattle.lanes.specs.Ring.{depth, all_entries, entry_at, lane_of, lane_at, heads, lens, head_of, len_of, slot, waiting_at, put_all, joined, taken}
+use Rattle.lanes.specs.RingLaws.{slot_apart, slot_other, slot_next, head_joined, put_all_old, put_all_new}
 
 -- the entries waiting in lane t
 unfoldable pub waiting : Lanes → List ℕ → ℕ → List Entry
@@ -32,28 +34,32 @@ module _ (l : Lanes) (entries : List ℕ) (t : ℕ) (ns : List ℕ) (n : ℕ) wh
   -- the other lanes stay as they are
   len_other : (u : ℕ) → u ≢ t → len_of (joined l t n) u ≡ len_of l u
   unfolding joined
-  len_other u d = get_or-set_other l.lens t u (len_of l t + n) 0 d
+  len_other u d = ap (λ x. x.len) (get_or-set_other l.lanes t u (lane_of (head_of l t) (len_of l t + n)) (lane_of 0 0) d)
 
   waiting_other : (u i : ℕ) → u ≢ t → after u i ≡ waiting_at l entries u i
-  unfolding waiting_at joined
-  waiting_other u i d = put_all_old l entries t ns n (slot u (head_of l u) i) (λ j p. slot_other u t _ _ i _ d)
+  unfolding waiting_at
+  waiting_other u i d = rw (head_joined l t n u) (put_all_old l entries t ns n (slot u (head_of l u) i) (λ j p. slot_other u t _ _ i _ d))
 
   pub put_other : (u : ℕ) → u ≢ t → waiting (joined l t n) (put_all l entries t ns n) u ≡ waiting l entries u
   unfolding waiting
   put_other u d = rw (len_other u d) (listed_same _ _ (len_of l u) (λ i p. waiting_other u i d))
 
-  module _ (lane : t < tenants) (lens : length l.lens ≡ tenants) (long : length entries ≡ all_entries) (room : len_of l t + n ≤ depth) where
+  module _ (lane : t < tenants) (lens_long : length (lens l) ≡ tenants) (long : length entries ≡ all_entries) (room : len_of l t + n ≤ depth) where
     len_own : len_of (joined l t n) t ≡ len_of l t + n
     unfolding joined
-    len_own = get_or-set_same l.lens t (len_of l t + n) 0 (omega arith)
+    len_own =
+        ap (λ x. x.len)
+        (get_or-set_same l.lanes t (lane_of (head_of l t) (len_of l t + n)) (lane_of 0 0) (omega (arith, length-map l.lanes (λ x. x.len))))
 
     waiting_old : (i : ℕ) → i < len_of l t → after t i ≡ waiting_at l entries t i
-    unfolding waiting_at joined
-    waiting_old i p = put_all_old l entries t ns n (slot t (head_of l t) i) (λ j q. slot_apart t (head_of l t) i _ (omega arith) (omega arith))
+    unfolding waiting_at
+    waiting_old i p =
+        rw (head_joined l t n t)
+        (put_all_old l entries t ns n (slot t (head_of l t) i) (λ j q. slot_apart t (head_of l t) i _ (omega arith) (omega arith)))
 
     waiting_new : (j : ℕ) → j < n → after t (len_of l t + j) ≡ entry_at ns j
-    unfolding waiting_at joined
-    waiting_new j p = put_all_new l entries t ns lane long n j (omega arith) p
+    unfolding waiting_at
+    waiting_new j p = rw (head_joined l t n t) (put_all_new l entries t ns lane long n j (omega arith) p)
 
     -- in lane t wait those that waited, and then the bulk
     pub put_own : waiting (joined l t n) (put_all l entries t ns n) t ≡ waiting l entries t ++ given_in ns n
@@ -83,28 +89,36 @@ module _ (l : Lanes) (entries : List ℕ) (t : ℕ) (ns : List ℕ) (n : ℕ) wh
 
 -- a turn taken of lane t
 module _ (l : Lanes) (entries : List ℕ) (t : ℕ) where
+  abbrev left : Lane
+  left = lane_of ((head_of l t + 1) % depth) (len_of l t - 1)
+
   taken_len_other : (u : ℕ) → u ≢ t → len_of (taken l t) u ≡ len_of l u
   unfolding taken
-  taken_len_other u d = get_or-set_other l.lens t u (len_of l t - 1) 0 d
+  taken_len_other u d = ap (λ x. x.len) (get_or-set_other l.lanes t u left (lane_of 0 0) d)
 
   taken_waiting_other : (u i : ℕ) → u ≢ t → waiting_at (taken l t) entries u i ≡ waiting_at l entries u i
   unfolding waiting_at taken
-  taken_waiting_other u i d = rw (get_or-set_other l.heads t u ((head_of l t + 1) % depth) 0 d)
+  taken_waiting_other u i d = rw (ap (λ x. x.head) (get_or-set_other l.lanes t u left (lane_of 0 0) d))
 
   -- leaves the other lanes as they are
   pub take_other : (u : ℕ) → u ≢ t → waiting (taken l t) entries u ≡ waiting l entries u
   unfolding waiting
   take_other u d = rw (taken_len_other u d) (listed_same _ _ (len_of l u) (λ i p. taken_waiting_other u i d))
 
-  module _ (lane : t < tenants) (heads : length l.heads ≡ tenants) (lens : length l.lens ≡ tenants) where
-    taken_len : len_of (taken l t) t ≡ len_of l t - 1
+  module _ (lane : t < tenants) (heads_long : length (heads l) ≡ tenants) (lens_long : length (lens l) ≡ tenants) where
+    own : lane_at (taken l t) t ≡ left
     unfolding taken
-    taken_len = get_or-set_same l.lens t (len_of l t - 1) 0 (omega arith)
+    own = get_or-set_same l.lanes t left (lane_of 0 0) (omega (arith, length-map l.lanes (λ x. x.head)))
+
+    taken_head : head_of (taken l t) t ≡ (head_of l t + 1) % depth
+    taken_head = ap (λ x. x.head) own
+
+    taken_len : len_of (taken l t) t ≡ len_of l t - 1
+    taken_len = ap (λ x. x.len) own
 
     taken_waiting : (i : ℕ) → waiting_at (taken l t) entries t i ≡ waiting_at l entries t (i + 1)
-    unfolding waiting_at taken
-    taken_waiting i =
-        rw (get_or-set_same l.heads t ((head_of l t + 1) % depth) 0 (omega arith)) (ap (entry_at entries) (sym (slot_next t (head_of l t) i)))
+    unfolding waiting_at
+    taken_waiting i = rw taken_head (ap (entry_at entries) (sym (slot_next t (head_of l t) i)))
 
     -- takes the oldest entry off the lane, and the rest stay
     pub take_own : 0 < len_of l t → waiting l entries t ≡ waiting_at l entries t 0 ∷ waiting (taken l t) entries t

@@ -7,30 +7,19 @@ use crate::DEPTH;
 use crate::ring::given;
 use entry::form::malformed;
 use entry::{BULK, ENTRY_NUMBERS};
-use units::words::both;
 
 // A count of 1 to 20, with the numbers of so many entries lent.
 pub fn well_counted(count: u32, numbers: &[u32]) -> bool
     ensures { result ≡ well_counted count numbers.now }
 {
-    both(
-        both(1 <= count, count <= BULK),
-        numbers.len() == ENTRY_NUMBERS * count as usize,
-    )
+    1 <= count && count <= BULK && numbers.len() == ENTRY_NUMBERS * count as usize
 }
 
+// Whether an entry of a bulk is malformed.
 pub fn some_malformed(count: u32, numbers: &[u32]) -> bool
     ensures { result ≡ some_malformed count numbers.now }
 {
-    let mut j: u32 = 0;
-    while j < count {
-        let e = given(numbers, j as usize);
-        if malformed(e) {
-            return true;
-        }
-        j += 1;
-    }
-    false
+    (0..count as usize).any(|j| malformed(given(numbers, j)))
 }
 
 // Waiting plus count above 64.

@@ -21,19 +21,18 @@ pub const ALL_ENTRIES: usize = TENANTS * DEPTH * ENTRY_NUMBERS;
 // The entries of all lanes, as plain numbers: lane by lane and entry by entry.
 pub type Entries = [u32; ALL_ENTRIES];
 
-// Where each lane's oldest entry stands in its ring, how many wait in it, and the rotation's place.
+// Where a lane's oldest entry stands in its ring, and how many wait in it.
 #[derive(Clone, Copy)]
-pub struct Lanes {
-    pub heads: [u32; TENANTS],
-    pub lens: [u32; TENANTS],
-    pub place: usize,
+pub struct Lane {
+    pub head: u32,
+    pub len: u32,
 }
 
-// The lane that the next turn serves.
+// The lanes, tenant by tenant, and the rotation's place.
 #[derive(Clone, Copy)]
-pub enum Served {
-    Lane(usize),
-    Nobody,
+pub struct Lanes {
+    pub lanes: [Lane; TENANTS],
+    pub place: usize,
 }
 
 impl Lanes {
@@ -42,8 +41,7 @@ impl Lanes {
         ensures { result ≡ empty }
     {
         Lanes {
-            heads: [0u32; TENANTS],
-            lens: [0u32; TENANTS],
+            lanes: [Lane { head: 0, len: 0 }; TENANTS],
             place: 0,
         }
     }

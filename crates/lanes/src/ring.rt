@@ -14,18 +14,14 @@ use units::{Cents, Contracts, TENANTS};
 fn number_at(ns: &[u32], i: usize) -> u32
     ensures { result ≡ at ns.now i }
 {
-    if i < ns.len() { ns[i] } else { 0 }
+    ns.get(i).copied().unwrap_or(0)
 }
 
 // Where the numbers of entry j start in a row of numbers, or its end where that comes first.
 fn first_of(ns: &[u32], j: usize) -> usize
     ensures { result ≡ min (j * entry_numbers) (length ns.now) }
 {
-    if ns.len() / ENTRY_NUMBERS < j {
-        ns.len()
-    } else {
-        j * ENTRY_NUMBERS
-    }
+    ns.len().min(j.saturating_mul(ENTRY_NUMBERS))
 }
 
 // Entry j of a row of numbers; all 0 past the end.
@@ -55,7 +51,7 @@ fn slot(l: Lanes, t: usize, i: usize) -> usize
     requires { t < tenants }
     ensures { result ≡ slot t (head_of l t) i }
 {
-    t * DEPTH + (l.heads[t] as usize % DEPTH + i % DEPTH) % DEPTH
+    t * DEPTH + (l.lanes[t].head as usize % DEPTH + i % DEPTH) % DEPTH
 }
 
 // The oldest entry waiting in a lane.
@@ -73,11 +69,7 @@ fn put(entries: &mut Entries, k: usize, ns: &[u32], j: usize)
 {
     let to = k * ENTRY_NUMBERS;
     let from = j * ENTRY_NUMBERS;
-    let mut i = 0usize;
-    while i < ENTRY_NUMBERS {
-        entries[to + i] = ns[from + i];
-        i += 1;
-    }
+    entries[to..to + ENTRY_NUMBERS].copy_from_slice(&ns[from..from + ENTRY_NUMBERS]);
 }
 
 // A bulk is put behind the entries waiting in a lane, in its order.
@@ -85,11 +77,9 @@ pub fn put_all(l: Lanes, entries: &mut Entries, t: usize, ns: &[u32], count: usi
     requires { CanPut l entries.old t ns.now count }
     ensures { entries.new ≡ put_all l entries.old t ns.now count }
 {
-    let len = l.lens[t] as usize;
-    let mut j = 0usize;
-    while j < count {
+    let len = l.lanes[t].len as usize;
+    for j in 0..count {
         put(entries, slot(l, t, len + j), ns, j);
-        j += 1;
     }
 }
 
@@ -98,7 +88,7 @@ pub fn joined(mut l: Lanes, t: usize, n: u32) -> Lanes
     requires { CanJoin l t n }
     ensures { result ≡ joined l t n }
 {
-    l.lens[t] = l.lens[t] + n;
+    l.lanes[t].len += n;
     l
 }
 
@@ -107,8 +97,9 @@ pub fn taken(mut l: Lanes, t: usize) -> Lanes
     requires { CanTake l t }
     ensures { result ≡ taken l t }
 {
-    l.heads[t] = ((l.heads[t] as usize + 1) % DEPTH) as u32;
-    l.lens[t] = l.lens[t] - 1;
+    let lane = &mut l.lanes[t];
+    lane.head = ((lane.head as usize + 1) % DEPTH) as u32;
+    lane.len -= 1;
     l.place = (t + 1) % TENANTS;
     l
 }

@@ -2,21 +2,19 @@
 ghost use Rattle.std.specs.Prelude.{◌≡◌};
 ghost use Rattle.lanes.specs.Rotation.{served};
 
-use crate::{Lanes, Served};
+use crate::Lanes;
 use units::TENANTS;
 
-// The first lane at or after the place that has an entry, in order 0 to 8 and round again.
-pub fn served(l: Lanes) -> Served
+// The first lane at or after the place that has an entry, in order 0 to 8 and round again; none where no lane has one.
+pub fn served(l: Lanes) -> Option<usize>
     ensures { result ≡ served l }
 {
     let place = l.place % TENANTS;
-    let mut d = 0usize;
-    while d < TENANTS {
+    for d in 0..TENANTS {
         let t = (place + d) % TENANTS;
-        if 0 < l.lens[t] {
-            return Served::Lane(t);
+        if 0 < l.lanes[t].len {
+            return Some(t);
         }
-        d += 1;
     }
-    Served::Nobody
+    None
 }

@@ -3,20 +3,14 @@ ghost use Rattle.std.specs.Prelude.{◌≡◌, eqb};
 ghost use Rattle.units.specs.Picked.{keep, precedes};
 ghost use Rattle.levels.specs.Levels.{tradable_at, whole_of};
 
-use rows::row::{key, open_size, wide};
+use rows::row::{key, open_size};
 use units::{Cents, Contracts, Total};
 
 // a comes before b; or they are the same, and n comes before m.
 pub fn precedes(a: u64, b: u64, n: u32, m: u32) -> bool
     ensures { result ≡ precedes a b n m }
 {
-    if a < b {
-        true
-    } else if a == b {
-        n < m
-    } else {
-        false
-    }
+    a < b || (a == b && n < m)
 }
 
 // What a row holds, if it stands at key c.
@@ -38,7 +32,7 @@ pub fn tradable_at(
     ensures { result.0 ≡ tradable_at side bound.0 c row_side price.0 size.0 }
 {
     held_at(
-        wide(key(side, price)),
+        u64::from(key(side, price)),
         open_size(side, bound, row_side, price, size),
         c,
     )
@@ -48,10 +42,10 @@ pub fn tradable_at(
 pub fn whole(left: Contracts, size: Contracts, total: Total) -> Contracts
     ensures { result.0 ≡ whole_of left.0 size.0 total.0 }
 {
-    let q = left.0 as u64;
+    let q = u64::from(left.0);
     if total.0 <= q {
         size
     } else {
-        Contracts((q * size.0 as u64 / total.0) as u32)
+        Contracts((q * u64::from(size.0) / total.0) as u32)
     }
 }

@@ -1,7 +1,8 @@
 -- Bytes laid out in the output that the caller lends.
-use Rattle.std.specs.Prelude.{◌≡◌, refl, List, [], ◌∷◌, ◌++◌, ℕ, ◌+◌, ◌≤◌, ◌<◌, length, set, take}
-use Rattle.std.proofs.Common.{ap, sym, ◌∙◌, add-one, arith, length-append, length-set, take-suc, take_all, length-take-le}
-use Rattle.std.proofs.lemmas.List.Edits.{sets}
+use Rattle.std.specs.Prelude.{◌≡◌, refl, List, [], ◌∷◌, ◌++◌, ℕ, ◌+◌, ◌-◌, ◌≤◌, ◌<◌, length, set, take}
+use Rattle.std.proofs.Common.{ap, sym, ◌∙◌, add-one, arith, length-append, length-set, take-suc, take_all, length-take-le, drop-drop, append_assoc}
+use Rattle.std.proofs.lemmas.List.Edits.{sets, sets-eq}
+use borrow.Rule.Slice.PartMut.{put_mid}
 use Rattle.std.proofs.Math.Seq.{length-sets}
 use Rattle.units.specs.Places.{at, sets_append}
 
@@ -69,6 +70,15 @@ module _ (was : List ℕ) (start : ℕ) where
   -- room for one byte fewer after the first
   pub room_after : (d k : ℕ) → Room was start (k + 1) → Room (set was start d) (start + 1) k
   room_after d k h = record { long = length-set was start d ∙ h.long; fits = omega (arith, h.fits) }
+
+  -- a part that is written over with w at once
+  pub word_laid :
+      (w mid : List ℕ) (end : ℕ) → Room was start (length w) → end ≡ start + length w → mid ≡ w →
+      Laid was start w (length w) (put_mid start (end - start) was mid) end
+  word_laid w mid end h is same =
+      let k : end - start ≡ length w = omega arith in
+      let stored : put_mid start (end - start) was mid ≡ sets was start w = rw (same, k, sets-eq w was start (omega (arith, h.fits, h.long)), drop-drop, append_assoc) in
+      record { stored = stored; end = is; long = ap length stored ∙ (length-sets was start w ∙ h.long); near = omega arith }
 
   -- a loop that lays out w byte by byte: the first i of them stand
   pub record Laying (w : List ℕ) (i : ℕ) (lent : List ℕ) : Type 0 where

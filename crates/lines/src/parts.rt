@@ -6,23 +6,20 @@ ghost use Rattle.lines.specs.Laying.{longest_number, longest_place, Room, Laid};
 
 use crate::Output;
 
-const ZERO: u8 = 48;
+const ZERO: u8 = b'0';
 
-const SPACE: u8 = 32;
+const SPACE: u8 = b' ';
 
-const NEWLINE: u8 = 10;
+const NEWLINE: u8 = b'\n';
 
 // A word, or any bytes.
 pub(crate) fn word(out: &mut Output, at: usize, w: &[u8]) -> usize
     requires { Room out.old at (length w.now) }
     ensures { Laid out.old at w.now (length w.now) out.new result }
 {
-    let mut i: usize = 0;
-    while i < w.len() {
-        out[at + i] = w[i];
-        i += 1;
-    }
-    at + i
+    let end = at + w.len();
+    out[at..end].copy_from_slice(w);
+    end
 }
 
 // Two digits of a number below 100, a 0 in front too.
@@ -97,7 +94,7 @@ pub(crate) fn number(out: &mut Output, at: usize, n: u32) -> usize
         out[at + 1] = ZERO + n as u8;
         return at + 2;
     }
-    digits(out, at + 1, n as u64)
+    digits(out, at + 1, u64::from(n))
 }
 
 // The end of a line.

@@ -100,3 +100,8 @@ module _ (sides prices sizes owners numbers : List ℕ) (fit : Fit prices sizes 
 
 pub joined : (f g : ℕ → ℕ) (x y : List ℕ) → x ≡ table f rows → y ≡ table g rows → table (λ i. max (at x i) (at y i)) rows ≡ table (λ i. max (f i) (g i)) rows
 joined f g x y e e' = rw (e, e') (table_same rows (λ i h. rw (table_at f rows i h, table_at g rows i h)))
+
+-- an opening leaves whose rows they are, and on which side
+pub unopened : (b c : Book) (price : ℕ) → c ≡ after_opening b price → (c.sides ≡ b.sides) × (c.owners ≡ b.owners)
+unfolding after_opening
+unopened b c price e = (ap (λ (d : Book). d.sides) e, ap (λ (d : Book). d.owners) e)

@@ -38,39 +38,21 @@ fn cut_at(price: Cents, sides: &Column, prices: &Column, sizes: &Column) -> Cut
 fn buy_cut(cut: Cut, side: u32, price: Cents) -> bool
     ensures { result ≡ buy_cut cut side price.0 }
 {
-    let buys = cut.buys;
-    if side == BUY {
-        if buys { cut.lowest.0 <= price.0 } else { false }
-    } else {
-        false
-    }
+    side == BUY && cut.buys && cut.lowest.0 <= price.0
 }
 
 // Whether a sell is cancelled.
 fn sell_cut(cut: Cut, side: u32, price: Cents) -> bool
     ensures { result ≡ sell_cut cut side price.0 }
 {
-    let sells = cut.sells;
-    if side == SELL {
-        if sells {
-            price.0 <= cut.highest.0
-        } else {
-            false
-        }
-    } else {
-        false
-    }
+    side == SELL && cut.sells && price.0 <= cut.highest.0
 }
 
 // What the cancels leave of a row.
 fn kept(cut: Cut, side: u32, price: Cents, size: Contracts) -> Contracts
     ensures { result.0 ≡ kept_by cut side price.0 size.0 }
 {
-    let buy = buy_cut(cut, side, price);
-    let sell = sell_cut(cut, side, price);
-    if buy {
-        Contracts(0)
-    } else if sell {
+    if buy_cut(cut, side, price) || sell_cut(cut, side, price) {
         Contracts(0)
     } else {
         size
@@ -79,14 +61,11 @@ fn kept(cut: Cut, side: u32, price: Cents, size: Contracts) -> Contracts
 
 // Cancels what would lock or cross the open book.
 pub(crate) fn cancel(price: Cents, sides: &Column, prices: &Column, sizes: &mut Column)
-    requires { length sizes.old ≡ rows }
     ensures { sizes.new ≡ table (kept_of rows (found sides) (found prices) (at sizes.old) price.0) rows }
 {
     let cut = cut_at(price, sides, prices, sizes);
-    let mut i: usize = 0;
-    while i < ROWS {
+    for i in 0..ROWS {
         let left = kept(cut, sides[i], Cents(prices[i]), Contracts(sizes[i]));
         sizes[i] = left.0;
-        i += 1;
     }
 }

@@ -3,14 +3,14 @@ use Rattle.std.specs.Prelude.{◌≡◌, Bool, List, [], ◌++◌, ℕ, zero, su
 use Rattle.units.specs.Tests.{pick}
 use Rattle.lines.specs.Laying.{output, Laid}
 use Rattle.tape.specs.Depth.{most_bytes}
-use Rattle.session.specs.declared.Session.{Session}
 use Rattle.session.specs.Market.{Market}
 use Rattle.session.specs.Sound.{Sound}
 use Rattle.replay.specs.Listing.{longest_event}
 use Rattle.replay.specs.Stepping.{going, Step, step_of}
 use Rattle.window.specs.Window.{is_short}
-use Rattle.playing.specs.declared.Next.{Next}
-use Rattle.playing.specs.declared.Next.TheVariants.{Read, Write, Stop}
+use Rattle.playing.specs.declared.Next as comes
+use Rattle.playing.specs.Next.{Next, next_of}
+use Rattle.playing.specs.Next.{Read, Write, Stop}
 use Rattle.playing.specs.declared.Played as code
 
 -- what playing makes of the market and prints, what is lent for the numbers of entries, the place of the next event,
@@ -55,8 +55,8 @@ unfoldable pub play_of : List ℕ → Bool → ℕ → Market → List ℕ → �
 play_of bytes more base m given from at = play_most bytes more base (suc (length bytes - from)) m given from at
 
 -- what the program is told
-abbrev pub leaving : Session → ℕ → ℕ → Next → code.Played
-leaving s at from next = record { session = s; at = at; from = from; next = next }
+abbrev pub leaving : ℕ → ℕ → comes.Next → code.Played
+leaving at from next = record { at = at; from = from; next = next }
 
 -- what playing asks: a sound market, places that fit, and the output that the lines ask
 pub record CanPlay (m : Market) (bytes : List ℕ) (base from : ℕ) (out : List ℕ) (start : ℕ) : Type 0 where
@@ -72,6 +72,6 @@ pub record PlaysTo (p : Play) (bytes out : List ℕ) (start : ℕ) (r : code.Pla
   pub given_is : given ≡ p.given
   pub laid : Laid out start p.bytes (output - start) lent r.at
   pub from : r.from ≡ p.from
-  pub next : r.next ≡ p.next
+  pub next : next_of r.next ≡ p.next
   pub sound : Sound m
   pub on_tape : r.from ≤ length bytes

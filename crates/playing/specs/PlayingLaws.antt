@@ -1,5 +1,5 @@
 -- Playing, step by step.
-use Rattle.std.specs.Prelude.{◌≡◌, Bool, List, [], ◌++◌, ltb}
+use Rattle.std.specs.Prelude.{◌≡◌, Some, None, Ok, Err, Bool, List, [], ◌++◌, ltb}
 use Rattle.std.proofs.Math.Path.{refl, sym, ap}
 use Rattle.std.proofs.Common.{◌∙◌, append_assoc, append-nil, arith}
 use Rattle.std.proofs.Math.Bool.{true, false}
@@ -9,20 +9,21 @@ use Rattle.std.proofs.Math.Dec.{eqb}
 use Rattle.std.proofs.Math.ListN.{length}
 use Rattle.units.specs.Tests.{pick, picked}
 use Rattle.lines.specs.Laying.{output, Laid, laid_then, nothing_laid}
-use Rattle.tape.specs.declared.Reading.{Reading}
-use Rattle.tape.specs.declared.Reading.TheVariants.{Read, Refused, End}
-use Rattle.tape.specs.Tape.{event_at, entries_after}
+use Rattle.tape.specs.Tape.{Reading, event_at, entries_after}
 use Rattle.tape.specs.Depth.{most_bytes}
 use Rattle.tape.specs.TapeLaws.{place}
-use Rattle.session.specs.declared.Session.{Session}
 use Rattle.session.specs.Market.{Market}
 use Rattle.replay.specs.Listing.{longest_event}
+use Rattle.replay.specs.declared.stepping.Ending.{Ending}
+use Rattle.replay.specs.declared.stepping.Ending.TheVariants.{Ended, Refused}
 use Rattle.replay.specs.declared.stepping.Reached.{Reached}
 use Rattle.replay.specs.Replay.{CanReplay}
-use Rattle.replay.specs.Stepping.{going, Step, step_by, step_of, StepsTo}
+use Rattle.replay.specs.Stepping.{going, status_of, Step, step_by, step_of, StepsTo}
 use Rattle.window.specs.Window.{is_short}
-use Rattle.playing.specs.declared.Next.{Next}
-use Rattle.playing.specs.declared.Next.TheVariants as next
+use Rattle.playing.specs.declared.Next as comes
+use Rattle.playing.specs.declared.Next.TheVariants as comes_next
+use Rattle.playing.specs.Next.{next_of}
+use Rattle.playing.specs.Next as next
 use Rattle.playing.specs.Playing.{Play, first, last, printing, leaving, play_most, play_of, CanPlay, PlaysTo}
 
 -- a step by what is read at its place: one after which the tape goes on takes a byte at least, the last stays
@@ -36,9 +37,9 @@ module _ (m : Market) (bytes : List ℕ) (from base : ℕ) (given : List ℕ) wh
       go :
           (x : Reading) → event_at bytes from ≡ x → (step_by m from base (entries_after bytes from given) x).status ≡ going →
           (from < (step_by m from base (entries_after bytes from given) x).from) × ((step_by m from base (entries_after bytes from given) x).from ≤ length bytes)
-      go (Read e end) q h = let p = place bytes from e end q in (p.0, p.1)
-      go (Refused code p) q h = absurd (omega arith)
-      go End q h = absurd (omega arith)
+      go (Ok (Some (e, end))) q h = let p = place bytes from e end q in (p.0, p.1)
+      go (Err r) q h = absurd (omega arith)
+      go (Ok None) q h = absurd (omega arith)
 
   pub step_last : eqb (step_of m bytes from base given).status going ≡ false → (step_of m bytes from base given).from ≡ from
   unfolding step_of
@@ -47,9 +48,14 @@ module _ (m : Market) (bytes : List ℕ) (from base : ℕ) (given : List ℕ) wh
       go :
           (x : Reading) → eqb (step_by m from base (entries_after bytes from given) x).status going ≡ false →
           (step_by m from base (entries_after bytes from given) x).from ≡ from
-      go (Read e end) h = absurd (eqb-false going going h refl)
-      go (Refused code p) h = refl
-      go End h = refl
+      go (Ok (Some (e, end))) h = absurd (eqb-false going going h refl)
+      go (Err r) h = refl
+      go (Ok None) h = refl
+
+-- a tape that has ended does not go on
+pub not_going : (how : Ending) → status_of (Some how) ≡ going → ⊥
+not_going Ended e = omega arith
+not_going Refused e = omega arith
 
 -- What holds of a play that runs no event, of one that runs the last step, and of a step before a play of which it
 -- holds, holds of every play.
@@ -122,8 +128,8 @@ module _ (bytes : List ℕ) (more : Bool) (base : ℕ) where
         go (suc n) h e = (n, omega arith, e ∙ ap (printing p.printed) (is n))
 
     -- no event more is run
-    waits : (s : Session) (next : Next) → whole ≡ printing p.printed (first next m given from) → PlaysTo whole bytes was start (leaving s at from next) m given out
-    waits s next e = rw e record {
+    waits : (next : comes.Next) → whole ≡ printing p.printed (first (next_of next) m given from) → PlaysTo whole bytes was start (leaving at from next) m given out
+    waits next e = rw e record {
       market = refl;
       given_is = refl;
       laid = rw (append-nil p.printed) p.laid;
@@ -134,20 +140,20 @@ module _ (bytes : List ℕ) (more : Bool) (base : ℕ) where
     }
 
     pub playing_reads :
-        (s : Session) {short : Bool} → short ≡ is_short from (length bytes) more most_bytes → short ≡ true →
-        PlaysTo whole bytes was start (leaving s at from next.Read) m given out
+        {short : Bool} → short ≡ is_short from (length bytes) more most_bytes → short ≡ true →
+        PlaysTo whole bytes was start (leaving at from comes_next.Read) m given out
     unfolding play_most pick
-    playing_reads s is so = waits s next.Read (unfolds (λ n. first next.Read m given from) (λ n. rw (sym is ∙ so))).2
+    playing_reads is so = waits comes_next.Read (unfolds (λ n. first next.Read m given from) (λ n. rw (sym is ∙ so))).2
 
     module _ {short : Bool} (is : short ≡ is_short from (length bytes) more most_bytes) (so : short ≡ false) where
       enough_at_hand : is_short from (length bytes) more most_bytes ≡ false
       enough_at_hand = sym is ∙ so
 
       pub playing_writes :
-          (s : Session) → output - at < longest_event →
-          PlaysTo whole bytes was start (leaving s at from next.Write) m given out
+          output - at < longest_event →
+          PlaysTo whole bytes was start (leaving at from comes_next.Write) m given out
       unfolding play_most pick
-      playing_writes s full = waits s next.Write (unfolds (λ n. first next.Write m given from) (λ n. rw (enough_at_hand, lt-ltb (output - at) longest_event full))).2
+      playing_writes full = waits comes_next.Write (unfolds (λ n. first next.Write m given from) (λ n. rw (enough_at_hand, lt-ltb (output - at) longest_event full))).2
 
       module _ (room : longest_event ≤ output - at) where
         pub playing_can : CanReplay m out at
@@ -161,25 +167,26 @@ module _ (bytes : List ℕ) (more : Bool) (base : ℕ) where
               record { stored = l.stored; end = l.end; long = l.long; near = omega (arith, d.laid.near, p.can.fits) }
 
           pub playing_stops :
-              (r.status ≡ going → ⊥) →
-              PlaysTo whole bytes was start (leaving r.session r.at r.from (next.Stop r.status)) after numbers next_out
+              (how : Ending) → r.ending ≡ Some how →
+              PlaysTo whole bytes was start (leaving r.at r.from (comes_next.Stop how)) after numbers next_out
           unfolding play_most pick
-          playing_stops stop =
+          playing_stops how stop =
               let q : Step = step_of m bytes from base given in
-              let no : eqb q.status going ≡ false = ne_eqb _ _ (λ e. stop (d.status ∙ e)) in
+              let told : status_of (Some how) ≡ q.status = sym (ap status_of stop) ∙ d.status in
+              let no : eqb q.status going ≡ false = ne_eqb _ _ (λ e. not_going how (told ∙ e)) in
               rw (unfolds (λ n. last q) (λ n. rw (enough_at_hand, le-ltb (output - at) longest_event room, no))).2 record {
                 market = d.market;
                 given_is = d.given_is;
                 laid = laid_on;
                 from = d.next;
-                next = ap next.Stop d.status;
+                next = ap next.Stop told;
                 sound = d.sound;
                 on_tape = d.on_tape p.can.begun;
               }
 
-          module _ (goes : r.status ≡ going) where
+          module _ (goes : r.ending ≡ None) where
             on : (from < r.from) × (r.from ≤ length bytes)
-            on = let o = step_on m bytes from base given (sym d.status ∙ goes) in (omega (arith, d.next, o.0), omega (arith, d.next, o.1))
+            on = let o = step_on m bytes from base given (sym d.status ∙ ap status_of goes) in (omega (arith, d.next, o.0), omega (arith, d.next, o.1))
 
             pub playing_less : length bytes - r.from < length bytes - from
             playing_less = omega (arith, on.0, on.1)
@@ -209,7 +216,7 @@ module _ (bytes : List ℕ) (more : Bool) (base : ℕ) where
             pub playing_goes_on : length numbers ≡ length given → Playing bytes more base whole was lent start after numbers r.from next_out r.at
             unfolding play_most pick
             playing_goes_on long =
-                let yes : eqb (step_of m bytes from base given).status going ≡ true = eq-eqb _ _ (sym d.status ∙ goes) in
+                let yes : eqb (step_of m bytes from base given).status going ≡ true = eq-eqb _ _ (sym d.status ∙ ap status_of goes) in
                 let place : at + length (step_of m bytes from base given).printed.bytes ≡ r.at = sym d.laid.end in
                 goes_with long
                 (unfolds

@@ -4,7 +4,7 @@ use Rattle.std.specs.Prelude.{◌≡◌, Bool, true, false, List, [], ◌∷◌,
 use Rattle.entry.specs.Numbers.{bulk_numbers}
 use Rattle.session.specs.Market.{Market}
 use Rattle.replay.specs.Output.{new_market}
-use Rattle.playing.specs.declared.Next.TheVariants.{Read, Write, Stop}
+use Rattle.playing.specs.Next.{Read, Write, Stop}
 use Rattle.playing.specs.Playing.{Play, play_of}
 
 -- how the program stands before a play: the market, what is lent for the numbers of entries, the bytes at hand, the

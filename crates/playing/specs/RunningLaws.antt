@@ -1,14 +1,12 @@
 -- A run prints the output of the whole tape, whatever the parts that the file gives, and there is one for all parts.
-use Rattle.std.specs.Prelude.{◌≡◌, refl, Bool, true, false, ◌⊎◌, ℕ, zero, suc, ◌+◌, ◌-◌, ◌*◌, ◌≤◌, ◌<◌, ltb, length, take, drop}
+use Rattle.std.specs.Prelude.{◌≡◌, refl, Some, None, Ok, Err, Bool, true, false, ◌⊎◌, ℕ, zero, suc, ◌+◌, ◌-◌, ◌*◌, ◌≤◌, ◌<◌, ltb, length, take, drop}
 use Rattle.std.proofs.Common.{sym, ap, ◌∙◌, true≢false, inl, inr, ⊎_elim, arith, eq-eqb, lt-ltb, length-append, length-drop, take-append-drop, length-take-le}
 use mathlib.Core.List.{List, [], ◌∷◌, ◌++◌, append_assoc, append-nil, flatten}
 use Rattle.std.proofs.lemmas.Bool.{eqb-false}
 use Rattle.std.proofs.lemmas.List.{length-replicate}
 use Rattle.lines.specs.Laying.{output}
 use Rattle.entry.specs.Numbers.{bulk_numbers}
-use Rattle.tape.specs.declared.Reading.{Reading}
-use Rattle.tape.specs.declared.Reading.TheVariants as reading
-use Rattle.tape.specs.Tape.{event_at, entries_at, entries_after}
+use Rattle.tape.specs.Tape.{Reading, event_at, entries_at, entries_after}
 use Rattle.tape.specs.Several.{stored_long}
 use Rattle.tape.specs.Depth.{most_bytes}
 use Rattle.tape.specs.Whole.{read_from}
@@ -19,8 +17,8 @@ use Rattle.replay.specs.Output.{printed_on, output_of}
 use Rattle.replay.specs.OutputLaws.{window_step}
 use Rattle.window.specs.Window.{is_short}
 use Rattle.window.specs.WindowLaws.{enough, short_goes_on}
-use Rattle.playing.specs.declared.Next.{Next}
-use Rattle.playing.specs.declared.Next.TheVariants.{Read, Write, Stop}
+use Rattle.playing.specs.Next.{Next}
+use Rattle.playing.specs.Next.{Read, Write, Stop}
 use Rattle.playing.specs.Playing.{Play, play_most, play_of}
 use Rattle.playing.specs.PlayingLaws.{by_play, step_on, step_last}
 use Rattle.playing.specs.Running.{Standing, at_start, play_from, played, filled, emptied, Run, reads, meets_end, writes, stops}
@@ -31,9 +29,9 @@ unfolding step_of entries_after
 given_long m bytes from base given = go (event_at bytes from)
   where
     go : (x : Reading) → length (step_by m from base (entries_after bytes from given) x).given ≡ length given
-    go (reading.Read e end) = stored_long (entries_at bytes from) given
-    go (reading.Refused code p) = stored_long (entries_at bytes from) given
-    go reading.End = stored_long (entries_at bytes from) given
+    go (Ok (Some (e, end))) = stored_long (entries_at bytes from) given
+    go (Err r) = stored_long (entries_at bytes from) given
+    go (Ok None) = stored_long (entries_at bytes from) given
 
 -- what comes behind a play: nothing where the tape has stopped
 abbrev behind : Next → List ℕ → List ℕ

@@ -2,41 +2,38 @@
 #![tactic(auto)]
 
 ghost use Rattle.std.specs.Prelude.{◌≡◌};
-ghost use Rattle.session.specs.Market.{market_lent, market_found, market_left};
+ghost use Rattle.session.specs.Market.{market_in};
 ghost use Rattle.playing.specs.Playing.{leaving, play_of, CanPlay, PlaysTo};
 
+use book::Book;
 use lanes::Entries;
 use lines::{OUTPUT, Output};
 use replay::LONGEST_EVENT;
-use replay::stepping::{GOING, step};
-use rows::Column;
+use replay::stepping::{Ending, step};
 use session::Session;
 use tape::MOST_BYTES;
 use window::is_short;
 
-// What comes next: more of the tape is read, what is printed is written out, or nothing, since the tape ended or was
-// refused, with the byte that tells which.
+// What comes next: more of the tape is read, what is printed is written out, or nothing, since the tape ended.
 #[derive(Clone, Copy)]
 pub enum Next {
     Read,
     Write,
-    Stop(u8),
+    Stop(Ending),
 }
 
-// What playing leaves: the session, the place after what was printed, the place of the next event, and what comes next.
+// What playing leaves beside the market: the place after what was printed, the place of the next event, and what comes next.
 #[derive(Clone, Copy)]
 pub struct Played {
-    pub session: Session,
     pub at: usize,
     pub from: usize,
     pub next: Next,
 }
 
-fn leave(s: Session, at: usize, from: usize, next: Next) -> Played
-    ensures { result ≡ leaving s at from next }
+fn leave(at: usize, from: usize, next: Next) -> Played
+    ensures { result ≡ leaving at from next }
 {
     Played {
-        session: s,
         at: at,
         from: from,
         next: next,
@@ -47,45 +44,37 @@ fn leave(s: Session, at: usize, from: usize, next: Next) -> Played
 // place `base` of the tape: until too few are at hand although the tape may go on, or the output has no room for the
 // longest event, or the tape's last line is printed.
 pub fn play(
-    s: Session,
+    s: &mut Session,
     bytes: &[u8],
     more: bool,
     base: u64,
     from: usize,
     given: &mut [u32],
-    sides: &mut Column,
-    prices: &mut Column,
-    sizes: &mut Column,
-    owners: &mut Column,
-    numbers: &mut Column,
+    book: &mut Book,
     entries: &mut Entries,
     out: &mut Output,
     at: usize,
 ) -> Played
-    requires { CanPlay (market_lent s sides prices sizes owners numbers entries) bytes.now base from out.old at }
+    requires { CanPlay (market_in s.old book.old entries.old) bytes.now base from out.old at }
     ensures { PlaysTo
-        (play_of bytes.now more base (market_found s sides prices sizes owners numbers entries) given.old from at)
+        (play_of bytes.now more base (market_in s.old book.old entries.old) given.old from at)
         bytes.now out.old at result
-        (market_left result.session sides prices sizes owners numbers entries) given.new out.new }
+        (market_in s.new book.new entries.new) given.new out.new }
 {
-    let mut s = s;
     let mut from = from;
     let mut at = at;
     loop {
         if is_short(from, bytes.len(), more, MOST_BYTES) {
-            return leave(s, at, from, Next::Read);
+            return leave(at, from, Next::Read);
         }
         if OUTPUT - at < LONGEST_EVENT {
-            return leave(s, at, from, Next::Write);
+            return leave(at, from, Next::Write);
         }
-        let done = step(
-            s, bytes, from, base, given, sides, prices, sizes, owners, numbers, entries, out, at,
-        );
-        s = done.session;
+        let done = step(s, bytes, from, base, given, book, entries, out, at);
         from = done.from;
         at = done.at;
-        if done.status != GOING {
-            return leave(s, at, from, Next::Stop(done.status));
+        if let Some(how) = done.ending {
+            return leave(at, from, Next::Stop(how));
         }
     }
 }

@@ -1,7 +1,7 @@
 -- The midpoint in the words of the paper, that the definition says just that, where it is as it was before the grid was
 -- asked, and where there is none.
 use mathlib.Core.Logic.Iff
-use Rattle.std.specs.Prelude.{◌≡◌, refl, ◌↔◌, Bool, true, false, cond, ◌&&◌, ℕ, ◌+◌, ◌*◌, ◌/◌, ◌≤◌, ◌<◌, ltb, eqb}
+use Rattle.std.specs.Prelude.{◌≡◌, refl, Some, ◌↔◌, Bool, true, false, cond, ◌&&◌, ℕ, ◌+◌, ◌*◌, ◌/◌, ◌≤◌, ◌<◌, ltb, eqb}
 use Rattle.std.proofs.Common.{◌∙◌, arith, lt-ltb, ltb-true, ltb-false, eqb-true}
 use Rattle.std.proofs.Math.Nat.{one-dvd}
 use Rattle.std.proofs.Math.Decide.{dec_lt}
@@ -10,7 +10,6 @@ use Rattle.units.specs.Units.{cents}
 use Rattle.units.specs.Grid.{stepping, grid_of, lowest_of, highest_on}
 use Rattle.units.specs.GridLaws.{StepDivides, on_says, highest_here, highest_says, some_price, lowest_is, lowest_bounds}
 use Rattle.units.specs.declared.grid.Grid.{Grid}
-use Rattle.units.specs.declared.grid.Chosen.TheVariants.{One}
 use Rattle.price.specs.Price.{midpoint}
 
 -- the midpoint: the highest grid price at or below (NBB + NBO)/2, the half not rounded, if both exist; 0 is no price
@@ -77,7 +76,7 @@ none_below g nbb nbo least turn bid offer = (
     middle = midpoint_is g nbb nbo bid offer
 
 -- so in grid 3 alone, and there exactly where (NBB + NBO)/2 is below 5
-pub no_midpoint : (number : ℕ) (g : Grid) (nbb nbo : ℕ) → grid_of number ≡ One g → 0 < nbb → 0 < nbo
+pub no_midpoint : (number : ℕ) (g : Grid) (nbb nbo : ℕ) → grid_of number ≡ Some g → 0 < nbb → 0 < nbo
     → ((price : ℕ) → Midpoint g nbb nbo price → ⊥) ↔ ((number ≡ 3) × (nbb + nbo < 2 * 5))
 no_midpoint number g nbb nbo is bid offer =
     let (least, most) = lowest_bounds number g is in

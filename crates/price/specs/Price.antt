@@ -1,12 +1,11 @@
 -- The opening price. NBB and NBO here are the away quote alone, 0 where absent.
-use Rattle.std.specs.Prelude.{Bool, true, false, cond, ◌&&◌, ◌||◌, ℕ, ◌+◌, ◌/◌, leb, ltb}
+use Rattle.std.specs.Prelude.{Option, Some, None, Bool, true, false, cond, ◌&&◌, ◌||◌, ℕ, ◌+◌, ◌/◌, leb, ltb}
+use Rattle.units.specs.declared.Cents.{Cents}
 use Rattle.units.specs.Units.{cents}
 use Rattle.units.specs.Grid.{highest_on}
 use Rattle.units.specs.declared.grid.Grid.{Grid}
 use Rattle.price.specs.Amounts.{minimum_amount}
 use Rattle.price.specs.declared.Sources.{Sources}
-use Rattle.price.specs.declared.Choice.{Choice}
-use Rattle.price.specs.declared.Choice.TheVariants.{At, NoneValid}
 
 module _ (bid offer : ℕ) where
   -- at most the minimum amount above NBB or at most that below NBO
@@ -31,20 +30,20 @@ module _ (bid offer : ℕ) where
   usable price = ltb 0 price && valid price
 
   -- the first valid of: midpoint if there is one; last print if not 0; previous close if not 0
-  unfoldable pub first_valid : Grid → ℕ → ℕ → Choice
+  unfoldable pub first_valid : Grid → ℕ → ℕ → Option Cents
   first_valid grid print close =
-      cond (usable (midpoint grid)) (At (cents (midpoint grid)))
-      (cond (usable print) (At (cents print))
-      (cond (usable close) (At (cents close)) NoneValid))
+      cond (usable (midpoint grid)) (Some (cents (midpoint grid)))
+      (cond (usable print) (Some (cents print))
+      (cond (usable close) (Some (cents close)) None))
 
-unfoldable pub price_of : Sources → Choice
+unfoldable pub price_of : Sources → Option Cents
 price_of s = first_valid s.bid.0 s.offer.0 s.grid s.print.0 s.close.0
 
 -- the price chosen, 0 where none is valid
-abbrev pub chosen : Choice → ℕ
-chosen (At p) = p.0
-chosen NoneValid = 0
+abbrev pub chosen : Option Cents → ℕ
+chosen (Some p) = p.0
+chosen None = 0
 
-abbrev pub none_valid : Choice → Bool
-none_valid (At p) = false
-none_valid NoneValid = true
+abbrev pub none_valid : Option Cents → Bool
+none_valid (Some p) = false
+none_valid None = true

@@ -1,14 +1,13 @@
 -- Which price is chosen: the first usable of the three; and none exactly where none of them is.
-use Rattle.std.specs.Prelude.{◌≡◌, Bool, cond, ◌↔◌, ℕ, ◌<◌, ltb}
+use Rattle.std.specs.Prelude.{◌≡◌, Option, Some, None, Bool, cond, ◌↔◌, ℕ, ◌<◌, ltb}
 use Rattle.std.proofs.Math.Path.{refl}
 use Rattle.std.proofs.Math.Bool.{true, false, and-eq-true_iff}
 use Rattle.std.proofs.Common.{ltb-true}
+use Rattle.units.specs.declared.Cents.{Cents}
 use Rattle.units.specs.Units.{cents}
 use Rattle.units.specs.Tests.{holds_not_fails}
 use Rattle.price.specs.Price.{valid, midpoint, usable, first_valid, price_of, chosen, none_valid}
 use Rattle.price.specs.declared.Sources.{Sources}
-use Rattle.price.specs.declared.Choice.{Choice}
-use Rattle.price.specs.declared.Choice.TheVariants.{At, NoneValid}
 
 -- none of the three is usable
 pub record NoneUsable (s : Sources) : Type 0 where
@@ -24,32 +23,32 @@ module _ (s : Sources) where
   may = usable s.bid.0 s.offer.0
 
   -- the choice is the first usable of midpoint, last print and previous close
-  pub data First : Choice → Type 0 where
-    at_midpoint : may middle ≡ true → First (At (cents middle))
-    at_print : may middle ≡ false → may s.print.0 ≡ true → First (At s.print)
-    at_close : may middle ≡ false → may s.print.0 ≡ false → may s.close.0 ≡ true → First (At s.close)
-    nowhere : NoneUsable s → First NoneValid
+  pub data First : Option Cents → Type 0 where
+    at_midpoint : may middle ≡ true → First (Some (cents middle))
+    at_print : may middle ≡ false → may s.print.0 ≡ true → First (Some s.print)
+    at_close : may middle ≡ false → may s.print.0 ≡ false → may s.close.0 ≡ true → First (Some s.close)
+    nowhere : NoneUsable s → First None
 
   pub chosen_first : First (price_of s)
   unfolding price_of first_valid
   chosen_first = go (may middle) (may s.print.0) (may s.close.0) refl refl refl
     where
       go : (a b c : Bool) → may middle ≡ a → may s.print.0 ≡ b → may s.close.0 ≡ c
-          → First (cond a (At (cents middle)) (cond b (At s.print) (cond c (At s.close) NoneValid)))
+          → First (cond a (Some (cents middle)) (cond b (Some s.print) (cond c (Some s.close) None)))
       go true b c i j k = at_midpoint i
       go false true c i j k = at_print i j
       go false false true i j k = at_close i j k
       go false false false i j k = nowhere (record { no_midpoint = i; no_print = j; no_close = k })
 
   -- and no other choice is
-  pub first_chosen : {c : Choice} → First c → price_of s ≡ c
+  pub first_chosen : {c : Option Cents} → First c → price_of s ≡ c
   unfolding price_of first_valid
   first_chosen (at_midpoint i) = rw i
   first_chosen (at_print i j) = rw (i, j)
   first_chosen (at_close i j k) = rw (i, j, k)
   first_chosen (nowhere n) = rw (n.no_midpoint, n.no_print, n.no_close)
 
-  first_usable : {c : Choice} → First c → none_valid c ≡ false → may (chosen c) ≡ true
+  first_usable : {c : Option Cents} → First c → none_valid c ≡ false → may (chosen c) ≡ true
   first_usable (at_midpoint i) e = i
   first_usable (at_print i j) e = j
   first_usable (at_close i j k) e = k
@@ -59,7 +58,7 @@ module _ (s : Sources) where
   pub none_valid_lem : (none_valid (price_of s) ≡ true) ↔ NoneUsable s
   none_valid_lem = (go chosen_first, λ n. rw (first_chosen (nowhere n)))
     where
-      go : {c : Choice} → First c → none_valid c ≡ true → NoneUsable s
+      go : {c : Option Cents} → First c → none_valid c ≡ true → NoneUsable s
       go (at_midpoint i) e = absurd (holds_not_fails e refl)
       go (at_print i j) e = absurd (holds_not_fails e refl)
       go (at_close i j k) e = absurd (holds_not_fails e refl)

@@ -1,11 +1,12 @@
 -- The opening price in the words of the paper: the table of minimum amounts, when a price is valid, and which is the
 -- first valid; and that the definitions say just that.
-use Rattle.std.specs.Prelude.{◌≡◌, ◌↔◌, ◌⊎◌, Bool, ◌&&◌, ℕ, ◌+◌, ◌≤◌, ◌<◌}
+use Rattle.std.specs.Prelude.{◌≡◌, ◌↔◌, ◌⊎◌, Option, Bool, ◌&&◌, ℕ, ◌+◌, ◌≤◌, ◌<◌}
 use Rattle.std.proofs.Math.Path.{refl}
 use Rattle.std.proofs.Math.Bool.{true, false, cond}
 use Rattle.std.proofs.Common.{arith}
 use Rattle.std.proofs.Math.Dec.{leb, ltb}
 use borrow.Author.Tests.{lt-ltb, le-ltb, le-leb, lt-leb, ltb-true, ltb-false, leb-true, leb-false}
+use Rattle.units.specs.declared.Cents.{Cents}
 use Rattle.units.specs.Tests.{fails, holds_not_fails}
 use Rattle.units.specs.Says.{less_says, most_says, &&-says, ||-says}
 use Rattle.price.specs.Amounts.{minimum_amount}
@@ -13,7 +14,6 @@ use Rattle.price.specs.Price.{near_either, valid, midpoint, usable, chosen, none
 use Rattle.price.specs.Midpoint.{Midpoint, midpoint_highest}
 use Rattle.price.specs.PriceLaws.{NoneUsable, First, at_midpoint, at_print, at_close, nowhere}
 use Rattle.price.specs.declared.Sources.{Sources}
-use Rattle.price.specs.declared.Choice.{Choice}
 
 -- ---- the words
 
@@ -169,7 +169,7 @@ module _ (s : Sources) where
   )
 
   -- the price chosen is the first valid
-  pub first_says : {c : Choice} → First s c → none_valid c ≡ false → FirstValid s (chosen c)
+  pub first_says : {c : Option Cents} → First s c → none_valid c ≡ false → FirstValid s (chosen c)
   first_says (at_midpoint i) e = by_midpoint (middle_valid i)
   first_says (at_print i j) e = by_print (λ v. holds_not_fails (midpoint_says.1 v) i) (print_says.0 j)
   first_says (at_close i j k) e =

@@ -46,11 +46,10 @@ const ROWS: [Row; 7] = [
 pub(crate) fn minimum_amount(nbb: Cents) -> Cents
     ensures { result.0 ≡ minimum_amount nbb.0 }
 {
-    let mut i = 0usize;
-    let mut row = ROWS[i];
-    while row.ceiling.0 < nbb.0 {
-        i += 1;
-        row = ROWS[i];
+    for row in ROWS {
+        if nbb.0 <= row.ceiling.0 {
+            return row.amount;
+        }
     }
-    row.amount
+    unreachable!()
 }

@@ -21,53 +21,31 @@ pub struct Sources {
     pub close: Cents,
 }
 
-#[derive(Clone, Copy)]
-pub enum Choice {
-    At(Cents),
-    NoneValid,
-}
-
 // At most the minimum amount above the bid, or at most that below the offer.
 fn near_either(bid: Cents, offer: Cents, price: Cents) -> bool
     ensures { result ≡ near_either bid.0 offer.0 price.0 }
 {
-    let amount = minimum_amount(bid).0 as u64;
-    if (price.0 as u64) <= (bid.0 as u64) + amount {
-        true
-    } else {
-        (offer.0 as u64) <= (price.0 as u64) + amount
-    }
+    let amount = u64::from(minimum_amount(bid).0);
+    u64::from(price.0) <= u64::from(bid.0) + amount
+        || u64::from(offer.0) <= u64::from(price.0) + amount
 }
 
 // Whether a price lies within both quotes and near either.
 fn between(bid: Cents, offer: Cents, price: Cents) -> bool
     ensures { result ≡ (leb bid.0 price.0 && leb price.0 offer.0 && near_either bid.0 offer.0 price.0) }
 {
-    if bid.0 <= price.0 {
-        if price.0 <= offer.0 {
-            near_either(bid, offer, price)
-        } else {
-            false
-        }
-    } else {
-        false
-    }
+    bid.0 <= price.0 && price.0 <= offer.0 && near_either(bid, offer, price)
 }
 
 // Whether the away quote allows a price.
 fn valid(bid: Cents, offer: Cents, price: Cents) -> bool
     ensures { result ≡ valid bid.0 offer.0 price.0 }
 {
-    if 0 < bid.0 {
-        if 0 < offer.0 {
-            between(bid, offer, price)
-        } else {
-            bid.0 <= price.0
-        }
-    } else if 0 < offer.0 {
-        price.0 <= offer.0
-    } else {
-        true
+    match (0 < bid.0, 0 < offer.0) {
+        (true, true) => between(bid, offer, price),
+        (true, false) => bid.0 <= price.0,
+        (false, true) => price.0 <= offer.0,
+        (false, false) => true,
     }
 }
 
@@ -75,13 +53,9 @@ fn valid(bid: Cents, offer: Cents, price: Cents) -> bool
 fn midpoint(grid: Grid, bid: Cents, offer: Cents) -> Cents
     ensures { result.0 ≡ midpoint bid.0 offer.0 grid }
 {
-    if 0 < bid.0 {
-        if 0 < offer.0 {
-            let half = ((bid.0 as u64) + (offer.0 as u64)) / 2;
-            grid.at_or_below(Cents(half as u32))
-        } else {
-            Cents(0)
-        }
+    if 0 < bid.0 && 0 < offer.0 {
+        let half = (u64::from(bid.0) + u64::from(offer.0)) / 2;
+        grid.at_or_below(Cents(half as u32))
     } else {
         Cents(0)
     }
@@ -91,30 +65,21 @@ fn midpoint(grid: Grid, bid: Cents, offer: Cents) -> Cents
 fn usable(bid: Cents, offer: Cents, price: Cents) -> bool
     ensures { result ≡ usable bid.0 offer.0 price.0 }
 {
-    if 0 < price.0 {
-        valid(bid, offer, price)
-    } else {
-        false
-    }
+    0 < price.0 && valid(bid, offer, price)
 }
 
 // The first valid of midpoint, last print and previous close.
-pub fn choose(s: Sources) -> Choice
+pub fn choose(s: Sources) -> Option<Cents>
     ensures { result ≡ price_of s }
 {
-    let grid = s.grid;
-    let bid = s.bid;
-    let offer = s.offer;
-    let print = s.print;
-    let close = s.close;
-    let middle = midpoint(grid, bid, offer);
-    if usable(bid, offer, middle) {
-        Choice::At(middle)
-    } else if usable(bid, offer, print) {
-        Choice::At(print)
-    } else if usable(bid, offer, close) {
-        Choice::At(close)
+    let middle = midpoint(s.grid, s.bid, s.offer);
+    if usable(s.bid, s.offer, middle) {
+        Some(middle)
+    } else if usable(s.bid, s.offer, s.print) {
+        Some(s.print)
+    } else if usable(s.bid, s.offer, s.close) {
+        Some(s.close)
     } else {
-        Choice::NoneValid
+        None
     }
 }

@@ -16,7 +16,7 @@ use Rattle.replay.specs.Stepping.{going}
 use Rattle.window.specs.declared.Filled.{Filled}
 use Rattle.window.specs.Window.{window_long, Refilled}
 use Rattle.window.specs.WindowLaws.{read_behind}
-use Rattle.playing.specs.declared.Next.TheVariants.{Read, Write, Stop}
+use Rattle.playing.specs.Next.{Read, Write, Stop, next_of}
 use Rattle.playing.specs.declared.Played.{Played}
 use Rattle.playing.specs.Playing.{play_of, CanPlay, PlaysTo}
 use Rattle.playing.specs.Running.{Standing, at_start, play_from, played, filled, emptied, Run, reads, meets_end, writes}
@@ -126,7 +126,7 @@ module _ {m : Market} {given window out : List ℕ} {at from to base : ℕ} {mor
     is_play : play_from st ≡ play_of (take to window) more base m given from at
     is_play = rw place
 
-    next_is : d.next ≡ (play_from st).next
+    next_is : next_of d.next ≡ (play_from st).next
     next_is = rw is_play p.next
 
     printed_fits : d.at ≤ output
@@ -146,7 +146,7 @@ module _ {m : Market} {given window out : List ℕ} {at from to base : ℕ} {mor
     fits_output = omega (arith, printed_fits, p.laid.long)
 
     -- a turn that reads the tape
-    module _ (goes : status ≡ going) (e : d.next ≡ Read) {next : List ℕ} {f : Filled} (g : Refilled window d.from to base next f) where
+    module _ (goes : status ≡ going) (e : next_of d.next ≡ Read) {next : List ℕ} {f : Filled} (g : Refilled window d.from to base next f) where
       abbrev part : List ℕ
       part = drop (to - d.from) (take f.to next)
 
@@ -172,6 +172,22 @@ module _ {m : Market} {given window out : List ℕ} {at from to base : ℕ} {mor
         came = λ _. came_on f.more refl;
       }
 
+    -- a turn whose read fails: the program stops
+    pub turn_fails :
+        {next : List ℕ} {f : Filled} → Refilled window d.from to base next f → 0 < turns → {told : ℕ} → (told ≡ going → ⊥) →
+        Rehearsing after numbers next lent d.at d.from to base more told (turns - 1)
+    turn_fails g h fails = record {
+      sound = p.sound;
+      given_long = same;
+      window_long_lem = g.long ∙ r.window_long_lem;
+      out_long = p.laid.long;
+      printed = printed_fits;
+      begun = on_hand;
+      within = r.within;
+      bounded = omega (arith, r.bounded);
+      came = λ on. absurd (fails on);
+    }
+
     -- a turn that does not: the output is written out, or the tape has stopped
     stays : {now told : ℕ} → now ≤ output → (told ≡ going → CameTo (standing after numbers window lent now d.from to base more)) →
         0 < turns → Rehearsing after numbers window lent now d.from to base more told (turns - 1)
@@ -187,8 +203,8 @@ module _ {m : Market} {given window out : List ℕ} {at from to base : ℕ} {mor
       came = came;
     }
 
-    pub turn_writes : 0 < turns → status ≡ going → d.next ≡ Write → {told : ℕ} → Rehearsing after numbers window lent 0 d.from to base more told (turns - 1)
+    pub turn_writes : 0 < turns → status ≡ going → next_of d.next ≡ Write → {told : ℕ} → Rehearsing after numbers window lent 0 d.from to base more told (turns - 1)
     turn_writes h goes e = stays (omega arith) (λ _. subst (λ (s : Standing). CameTo (emptied s)) is_played (came_writing (r.came goes) (sym next_is ∙ e))) h
 
-    pub turn_stops : 0 < turns → {how : ℕ} → d.next ≡ Stop how → Rehearsing after numbers window lent d.at d.from to base more how (turns - 1)
+    pub turn_stops : 0 < turns → {how : ℕ} → next_of d.next ≡ Stop how → Rehearsing after numbers window lent d.at d.from to base more how (turns - 1)
     turn_stops h {how} e = stays printed_fits (λ on. absurd ((leaves_from st).stopping how (sym next_is ∙ e) on)) h

@@ -4,10 +4,10 @@ use Rattle.std.proofs.Common.{arith, ltb-false}
 use Rattle.units.specs.Tests.{picked}
 use Rattle.units.specs.Units.{tenants}
 use Rattle.lanes.specs.Rotation.{served}
-use Rattle.session.specs.declared.TurnAnswer.{TurnAnswer}
-use Rattle.session.specs.declared.TurnAnswer.TheVariants as answer
-use Rattle.dealing.specs.declared.Came.{Came}
-use Rattle.dealing.specs.declared.Came.TheVariants as came
+use Rattle.session.specs.TurnAnswer.{TurnAnswer}
+use Rattle.session.specs.TurnAnswer as answer
+use Rattle.dealing.specs.Came.{Came}
+use Rattle.dealing.specs.Came as came
 use Rattle.dealing.specs.Deal.{dealt}
 use Rattle.session.specs.Market.{Market, floor_on}
 use Rattle.session.specs.Sound.{Sound}

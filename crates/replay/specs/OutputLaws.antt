@@ -1,13 +1,12 @@
 -- The output of a tape step by step.
-use Rattle.std.specs.Prelude.{◌≡◌, refl, cond, ◌⊎◌, List, [], ◌++◌, ℕ, ◌+◌, ◌*◌, ◌≤◌, eqb, length}
+use Rattle.std.specs.Prelude.{◌≡◌, refl, Some, None, Ok, Err, cond, ◌⊎◌, List, [], ◌++◌, ℕ, ◌+◌, ◌*◌, ◌≤◌, eqb, length}
 use Rattle.std.proofs.Common.{sym, ap, ◌∙◌, append_assoc, append-nil, arith, take_all}
 use Rattle.entry.specs.Numbers.{entry_numbers, bulk_numbers}
 use Rattle.lines.specs.Lines.{tape_line}
 use Rattle.tape.specs.declared.Event.{Event}
 use Rattle.tape.specs.declared.Event.TheVariants.{Settings, Away, Submit, Turn, Open}
-use Rattle.tape.specs.declared.Reading.{Reading}
-use Rattle.tape.specs.declared.Reading.TheVariants.{Read, Refused, End}
-use Rattle.tape.specs.Tape.{event_at, entries_at, entries_after}
+use Rattle.tape.specs.Refusal.{refusal_number}
+use Rattle.tape.specs.Tape.{Reading, event_at, entries_at, entries_after}
 use Rattle.tape.specs.Depth.{most_bytes}
 use Rattle.tape.specs.Spelling.{submitted}
 use Rattle.tape.specs.Whole.{Sent, Whole, ◌before◌, read_by, read_from}
@@ -20,7 +19,7 @@ use Rattle.replay.specs.Output.{lines_of, last_line, printed_on}
 
 -- what lent memory held before is none of an event's numbers
 lent_before :
-    (m : Market) (s : List ℕ) (at : ℕ) (e : Event) (end : ℕ) (given : List ℕ) → event_at s at ≡ Read e end → bulk_numbers ≤ length given →
+    (m : Market) (s : List ℕ) (at : ℕ) (e : Event) (end : ℕ) (given : List ℕ) → event_at s at ≡ Ok (Some (e, end)) → bulk_numbers ≤ length given →
     event_printed m e (entries_after s at given) ≡ event_printed m e (entries_at s at)
 unfolding event_printed submit_printed
 lent_before m s at (Settings x) end given q h = refl
@@ -54,9 +53,9 @@ output_step m s at given h = ap (printed_on m) (read_next s at) ∙ go (event_at
         (x : Reading) → event_at s at ≡ x →
         printed_on m (read_by (entries_at s at) (read_from s) x)
         ≡ (step_by m at 0 (entries_after s at given) x).printed.bytes ++ after_step s (step_by m at 0 (entries_after s at given) x)
-    go (Read e end) q = rw (lent_before m s at e end given q h) (prints_before m (record { event = e; numbers = entries_at s at }) (read_from s end))
-    go (Refused code p) q = let z : 0 + p ≡ p = omega arith in rw z (sym (append-nil (tape_line code p)))
-    go End q = refl
+    go (Ok (Some (e, end))) q = rw (lent_before m s at e end given q h) (prints_before m (record { event = e; numbers = entries_at s at }) (read_from s end))
+    go (Err r) q = let z : 0 + r.place ≡ r.place = omega arith in rw z (sym (append-nil (tape_line (refusal_number r.why) r.place)))
+    go (Ok None) q = refl
 
 -- through a window too: with the bytes of the longest event at hand, or all that the tape has
 pub window_step :

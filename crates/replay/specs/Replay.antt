@@ -7,8 +7,8 @@ use Rattle.entry.specs.declared.Settings as entry
 use Rattle.entry.specs.Numbers.{entry_numbers}
 use Rattle.tape.specs.declared.Event.{Event}
 use Rattle.tape.specs.declared.Event.TheVariants as event
-use Rattle.session.specs.declared.TurnAnswer.{TurnAnswer}
-use Rattle.session.specs.declared.OpenAnswer.{OpenAnswer}
+use Rattle.session.specs.TurnAnswer.{TurnAnswer}
+use Rattle.session.specs.OpenAnswer.{OpenAnswer}
 use Rattle.session.specs.Market.{Market, Called}
 use Rattle.session.specs.Sound.{Sound}
 use Rattle.session.specs.Settings.{settings_of, away_of}

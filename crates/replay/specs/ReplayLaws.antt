@@ -8,8 +8,8 @@ use Rattle.lines.specs.Laying.{longest, Laid, laid_within}
 use Rattle.tape.specs.declared.Event.{Event}
 use Rattle.session.specs.Market.{Market, Called}
 use Rattle.session.specs.Sound.{Sound}
-use Rattle.session.specs.declared.TurnAnswer.{TurnAnswer}
-use Rattle.session.specs.declared.OpenAnswer.{OpenAnswer}
+use Rattle.session.specs.TurnAnswer.{TurnAnswer}
+use Rattle.session.specs.OpenAnswer.{OpenAnswer}
 use Rattle.fills.specs.Calls.{Stored, empty_row, turn_with, open_with}
 use Rattle.replay.specs.Listing.{longest_event, turn_lines, open_lines}
 use Rattle.replay.specs.Replay.{called, turn_printed, open_printed, event_printed, Replayed}

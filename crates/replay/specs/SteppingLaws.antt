@@ -1,75 +1,78 @@
 -- A step by what was read at its place.
-use Rattle.std.specs.Prelude.{◌≡◌, refl, ◌⊎◌, List, [], ◌++◌, ℕ, ◌+◌, ◌≤◌, ◌<◌, length}
+use Rattle.std.specs.Prelude.{◌≡◌, refl, Option, Some, None, Ok, Err, ◌⊎◌, List, [], ◌++◌, ℕ, ◌+◌, ◌≤◌, ◌<◌, length}
 use Rattle.std.proofs.Math.Path.{sym}
-use Rattle.std.proofs.Common.{◌∙◌, ⊎_elim, arith}
+use Rattle.std.proofs.Common.{ap, ◌∙◌, ⊎_elim, arith}
 use Rattle.lines.specs.Laying.{longest, Laid, laid_within}
 use Rattle.lines.specs.Lines.{tape_line, end_line}
 use Rattle.tape.specs.declared.Event.{Event}
-use Rattle.tape.specs.declared.Reading.{Reading}
-use Rattle.tape.specs.declared.Reading.TheVariants.{Read, Refused, End}
-use Rattle.tape.specs.Tape.{event_at, entries_after}
+use Rattle.tape.specs.declared.Refused.{Refused as Bad}
+use Rattle.tape.specs.Refusal.{refusal_number}
+use Rattle.tape.specs.Tape.{Reading, event_at, entries_after}
 use Rattle.tape.specs.Depth.{most_bytes}
 use Rattle.tape.specs.TapeLaws.{place, moved, buffered, refused_place}
 use Rattle.session.specs.Market.{Market}
 use Rattle.replay.specs.declared.stepping.Reached as code
 use Rattle.replay.specs.Replay.{event_printed, CanReplay, Replayed}
-use Rattle.replay.specs.Stepping.{going, ended, refused, step_by, step_of, StepsTo}
+use Rattle.replay.specs.declared.stepping.Ending.{Ending}
+use Rattle.replay.specs.declared.stepping.Ending.TheVariants.{Ended, Refused}
+use Rattle.replay.specs.Stepping.{status_of, step_by, step_of, StepsTo}
 
 -- the place of a refusal is on the tape or at its end
 pub refused_fits :
-    (bytes : List ℕ) (from base code p : ℕ) (x : Reading) → x ≡ event_at bytes from → x ≡ Refused code p →
-    base + length bytes < 18446744073709551616 → base + p < 18446744073709551616
-refused_fits bytes from base code p x is told h =
-    ⊎_elim (λ l. omega arith) (λ e. omega (arith, e.0)) (refused_place bytes from code p (sym is ∙ told)).1
+    (bytes : List ℕ) (from base : ℕ) (r : Bad) (x : Reading) → x ≡ event_at bytes from → x ≡ Err r →
+    base + length bytes < 18446744073709551616 → base + r.place < 18446744073709551616
+refused_fits bytes from base r x is told h =
+    ⊎_elim (λ l. omega arith) (λ e. omega (arith, e.0)) (refused_place bytes from r.why r.place (sym is ∙ told)).1
 
 module _ (m : Market) (bytes : List ℕ) (from base : ℕ) (given : List ℕ) (out : List ℕ) (start : ℕ) (x : Reading) (is : x ≡ event_at bytes from)
     (numbers : List ℕ) (kept : numbers ≡ entries_after bytes from given) where
   pub step_read :
-      (e : Event) (end : ℕ) (r : code.Reached) (after : Market) (lent : List ℕ) → x ≡ Read e end →
-      Replayed (event_printed m e numbers) out start after lent r.at → r.from ≡ end → r.status ≡ going →
+      (e : Event) (end : ℕ) (r : code.Reached) (after : Market) (lent : List ℕ) → x ≡ Ok (Some (e, end)) →
+      Replayed (event_printed m e numbers) out start after lent r.at → r.from ≡ end → r.ending ≡ None →
       StepsTo (step_of m bytes from base given) bytes from out start r after numbers lent
   unfolding step_of
   step_read e end r after lent told done next goes =
-      let read : event_at bytes from ≡ Read e end = sym is ∙ told in
+      let read : event_at bytes from ≡ Ok (Some (e, end)) = sym is ∙ told in
       rw (read, ← kept) record {
         market = done.market;
         given_is = refl;
         laid = done.laid;
         next = next;
-        status = goes;
+        status = ap status_of goes;
         sound = done.sound;
         on_tape = λ h. omega (arith, (place bytes from e end read).1);
       }
 
   module _ (can : CanReplay m out start) (r : code.Reached) (lent : List ℕ) (stays : r.from ≡ from) where
     pub step_refused :
-        (code p : ℕ) → x ≡ Refused code p → Laid out start (tape_line code (base + p)) longest lent r.at → r.status ≡ refused →
+        (bad : Bad) → x ≡ Err bad → Laid out start (tape_line (refusal_number bad.why) (base + bad.place)) longest lent r.at →
+        r.ending ≡ Some Refused →
         StepsTo (step_of m bytes from base given) bytes from out start r m numbers lent
     unfolding step_of
-    step_refused code p told laid stops =
-        let read : event_at bytes from ≡ Refused code p = sym is ∙ told in
+    step_refused bad told laid stops =
+        let read : event_at bytes from ≡ Err bad = sym is ∙ told in
         rw (read, ← kept) record {
           market = refl;
           given_is = refl;
           laid = laid_within out start (omega arith) laid;
           next = stays;
-          status = stops;
+          status = ap status_of stops;
           sound = can.sound;
           on_tape = λ h. omega arith;
         }
 
     pub step_end :
-        x ≡ End → Laid out start end_line longest lent r.at → r.status ≡ ended →
+        x ≡ Ok None → Laid out start end_line longest lent r.at → r.ending ≡ Some Ended →
         StepsTo (step_of m bytes from base given) bytes from out start r m numbers lent
     unfolding step_of
     step_end told laid stops =
-        let read : event_at bytes from ≡ End = sym is ∙ told in
+        let read : event_at bytes from ≡ Ok None = sym is ∙ told in
         rw (read, ← kept) record {
           market = refl;
           given_is = refl;
           laid = laid_within out start (omega arith) laid;
           next = stays;
-          status = stops;
+          status = ap status_of stops;
           sound = can.sound;
           on_tape = λ h. omega arith;
         }
@@ -96,6 +99,18 @@ buffered_step m front buffer rest at given enough =
         ((step_by m (length front + at) 0 numbers (moved (length front) x)).given ≡ (step_by m at (length front) numbers x).given) ×
         ((step_by m (length front + at) 0 numbers (moved (length front) x)).from ≡ length front + (step_by m at (length front) numbers x).from) ×
         ((step_by m (length front + at) 0 numbers (moved (length front) x)).status ≡ (step_by m at (length front) numbers x).status)
-    go (Read e end) = (refl, refl, refl, refl)
-    go (Refused code p) = let z : 0 + (length front + p) ≡ length front + p = omega arith in (rw z refl, refl, refl, refl)
-    go End = (refl, refl, refl, refl)
+    go (Ok (Some (e, end))) = (refl, refl, refl, refl)
+    go (Err r) = let z : 0 + (length front + r.place) ≡ length front + r.place = omega arith in (rw z refl, refl, refl, refl)
+    go (Ok None) = (refl, refl, refl, refl)
+
+-- no two ends of a step have one number
+pub status_one : (x y : Option Ending) → status_of x ≡ status_of y → x ≡ y
+status_one None None h = refl
+status_one None (Some Ended) h = absurd (omega arith)
+status_one None (Some Refused) h = absurd (omega arith)
+status_one (Some Ended) None h = absurd (omega arith)
+status_one (Some Ended) (Some Ended) h = refl
+status_one (Some Ended) (Some Refused) h = absurd (omega arith)
+status_one (Some Refused) None h = absurd (omega arith)
+status_one (Some Refused) (Some Ended) h = absurd (omega arith)
+status_one (Some Refused) (Some Refused) h = refl

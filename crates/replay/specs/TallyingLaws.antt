@@ -6,8 +6,8 @@ use Rattle.units.specs.Units.{tenants}
 use Rattle.lines.specs.Laying.{output, longest_tally, Room, Laid, laid_then, laid_within, nothing_laid}
 use Rattle.tally.specs.declared.Tally.{Tally}
 use Rattle.session.specs.declared.Session.{Session}
-use Rattle.session.specs.declared.Tallied.{Tallied}
-use Rattle.session.specs.declared.Tallied.TheVariants.{Of}
+use Rattle.session.specs.Tallied.{Tallied}
+use Rattle.session.specs.Tallied.{Of}
 use Rattle.session.specs.Reading.{Values, values_of, tallied_of}
 use Rattle.replay.specs.Tallying.{longest_tallies, tally_line_of, tally_lines_to, reading_of, tally_lines}
 

@@ -1,90 +1,70 @@
 // One step along a tape: the event at a place is run and printed, or the tape's last line is.
 ghost use Rattle.std.specs.Prelude.{◌+◌, ◌<◌, length};
-ghost use Rattle.session.specs.Market.{market_lent, market_found, market_left};
+ghost use Rattle.session.specs.Market.{market_in};
 ghost use Rattle.replay.specs.Replay.{CanReplay};
 ghost use Rattle.replay.specs.Stepping.{step_of, StepsTo};
 
 use crate::events::event;
+use book::Book;
 use lanes::Entries;
 use lines::Output;
 use lines::line::{end_line, tape_line};
-use rows::Column;
 use session::Session;
-use tape::Reading;
 
-// The tape goes on.
-pub const GOING: u8 = 0;
+// How a tape ended: between two events, or refused.
+#[derive(Clone, Copy, PartialEq, Eq)]
+pub enum Ending {
+    Ended,
+    Refused,
+}
 
-// How a tape ended, as the program tells it: it ended between two events, or was refused.
-pub const ENDED: u8 = b'0';
-
-pub const REFUSED: u8 = b'1';
-
-// What a step leaves: the session, the place after what was printed, the place of the next event, and whether the tape
-// goes on.
+// What a step leaves beside the market: the place after what was printed, the place of the next event, and how the tape
+// ended, or none where it goes on.
 #[derive(Clone, Copy)]
 pub struct Reached {
-    pub session: Session,
     pub at: usize,
     pub from: usize,
-    pub status: u8,
+    pub ending: Option<Ending>,
 }
 
 // The event at the place `from` of the tape's bytes that are at hand, of which the first stands at the place `base` of
 // the tape.
 pub fn step(
-    s: Session,
+    s: &mut Session,
     bytes: &[u8],
     from: usize,
     base: u64,
     given: &mut [u32],
-    sides: &mut Column,
-    prices: &mut Column,
-    sizes: &mut Column,
-    owners: &mut Column,
-    numbers: &mut Column,
+    book: &mut Book,
     entries: &mut Entries,
     out: &mut Output,
     at: usize,
 ) -> Reached
-    requires can_replay { CanReplay (market_lent s sides prices sizes owners numbers entries) out.old at }
+    requires can_replay { CanReplay (market_in s.old book.old entries.old) out.old at }
     requires bytes_bound { base + length bytes.now < 18446744073709551616 }
     ensures { StepsTo
-        (step_of (market_found s sides prices sizes owners numbers entries) bytes.now from base given.old)
+        (step_of (market_in s.old book.old entries.old) bytes.now from base given.old)
         bytes.now from out.old at result
-        (market_left result.session sides prices sizes owners numbers entries) given.new out.new }
+        (market_in s.new book.new entries.new) given.new out.new }
 {
-    let reading = tape::events::event(bytes, from, given);
-    match reading {
-        Reading::Read(e, end) => {
-            let done = event(
-                s, e, given, sides, prices, sizes, owners, numbers, entries, out, at,
-            );
-            let after = done.session;
+    match tape::events::event(bytes, from, given) {
+        Ok(Some((e, end))) => {
+            let printed = event(s, e, given, book, entries, out, at);
             Reached {
-                session: after,
-                at: done.at,
+                at: printed,
                 from: end,
-                status: GOING,
+                ending: None,
             }
         }
-        Reading::Refused(code, place) => {
-            let end = tape_line(out, at, code, base + place as u64);
-            Reached {
-                session: s,
-                at: end,
-                from: from,
-                status: REFUSED,
-            }
-        }
-        Reading::End => {
-            let end = end_line(out, at);
-            Reached {
-                session: s,
-                at: end,
-                from: from,
-                status: ENDED,
-            }
-        }
+        Ok(None) => Reached {
+            at: end_line(out, at),
+            from,
+            ending: Some(Ending::Ended),
+        },
+        Err(r) => Reached {
+            at: tape_line(out, at, r.why.number(), base + r.place as u64),
+            from,
+            ending: Some(Ending::Refused),
+        },
     }
 }

@@ -6,34 +6,29 @@ ghost use Rattle.replay.specs.Tallying.{longest_tallies, tally_line_of, reading_
 
 use lines::Output;
 use lines::line::tally_line;
-use session::reading::tally_of;
-use session::{Session, Tallied};
+use session::Session;
 use units::TENANTS;
 
 // The line of one tenant.
-fn line_of(s: Session, tenant: u32, out: &mut Output, at: usize) -> usize
+fn line_of(s: &Session, tenant: u32, out: &mut Output, at: usize) -> usize
     requires tenant_lt_tenants { tenant < tenants }
     requires room { Room out.old at longest_tally }
-    ensures { Laid out.old at (tally_line_of tenant (reading_of s tenant)) longest_tally out.new result }
+    ensures { Laid out.old at (tally_line_of tenant (reading_of s.now tenant)) longest_tally out.new result }
 {
-    let told = tally_of(s, tenant);
-    let Tallied::Of(t) = told else {
+    let Ok(t) = s.tally_of(tenant) else {
         return at;
     };
     tally_line(out, at, tenant, t.turns, t.bought, t.sold)
 }
 
 // A line for each tenant, from a place of the output on.
-pub fn tally_lines(s: Session, out: &mut Output, at: usize) -> usize
+pub fn tally_lines(s: &Session, out: &mut Output, at: usize) -> usize
     requires { Room out.old at longest_tallies }
-    ensures { Laid out.old at (tally_lines s) longest_tallies out.new result }
+    ensures { Laid out.old at (tally_lines s.now) longest_tallies out.new result }
 {
     let mut end = at;
-    let mut t: usize = 0;
-    while t < TENANTS {
-        let next = line_of(s, t as u32, out, end);
-        end = next;
-        t += 1;
+    for t in 0..TENANTS {
+        end = line_of(s, t as u32, out, end);
     }
     end
 }

@@ -10,10 +10,9 @@ ghost use Rattle.std.specs.Prelude.{◌≤◌, length};
 ghost use Rattle.rewrite.specs.Rewriting.{StepsTo};
 
 use tape::MOST_BYTES;
-use window::program::{ENDED, FAILED, GOING, REFUSED, TURNS, flush, opened, status_after, tell};
+use window::program::{Status, TURNS, flush, opened, tell};
 use window::{WINDOW, is_short, refill};
-use writer::Written;
-use writer::rewriting::{Rewritten, rewrite};
+use writer::rewriting::rewrite;
 
 // What one event leaves: the place after it among the bytes at hand, the bytes that stand in the output, and how the
 // program goes on.
@@ -21,7 +20,7 @@ use writer::rewriting::{Rewritten, rewrite};
 struct Stepped {
     from: usize,
     at: usize,
-    status: u8,
+    status: Status,
 }
 
 // Rewrites the event at a place of the bytes at hand behind the bytes that stand in the output.
@@ -30,36 +29,26 @@ fn step(bytes: &[u8], from: usize, out: &mut [u8], at: usize) -> Stepped
     requires at_in_bounds { at ≤ length out.old }
     ensures { StepsTo bytes.now from out.old at result out.new }
 {
-    let told = rewrite(bytes, from, &mut out[at..]);
-    match told {
-        Rewritten::Event(written, end) => match written {
-            Written::Used(used) => Stepped {
-                from: end,
-                at: at + used,
-                status: GOING,
-            },
-            Written::Refused(_) => Stepped {
-                from: from,
-                at: at,
-                status: FAILED,
-            },
+    let status = match rewrite(bytes, from, &mut out[at..]) {
+        Ok(Some(rewritten)) => match rewritten.written {
+            Ok(used) => {
+                return Stepped {
+                    from: rewritten.end,
+                    at: at + used,
+                    status: Status::Going,
+                };
+            }
+            Err(_) => Status::Failed,
         },
-        Rewritten::Refused(_, _) => Stepped {
-            from: from,
-            at: at,
-            status: REFUSED,
-        },
-        Rewritten::End => Stepped {
-            from: from,
-            at: at,
-            status: ENDED,
-        },
-    }
+        Ok(None) => Status::Ended,
+        Err(_) => Status::Refused,
+    };
+    Stepped { from, at, status }
 }
 
 fn main(rt: HostRuntime) {
     let Some(mut source) = opened(&rt, 1, b"tape") else {
-        tell(FAILED);
+        tell(Status::Failed);
         return;
     };
     let mut window = [0u8; WINDOW];
@@ -68,16 +57,19 @@ fn main(rt: HostRuntime) {
     let mut from: usize = 0;
     let mut to: usize = 0;
     let mut more = true;
-    let mut status = GOING;
+    let mut status = Status::Going;
     let mut turns = TURNS;
-    while turns > 0 && status == GOING {
+    while turns > 0 && status == Status::Going {
         turns -= 1;
         if is_short(from, to, more, MOST_BYTES) {
-            let filled = refill(&mut source, &mut window, from, to, 0);
-            from = 0;
-            to = filled.to;
-            more = filled.more;
-            status = status_after(filled.failed);
+            match refill(&mut source, &mut window, from, to, 0) {
+                Ok(filled) => {
+                    from = 0;
+                    to = filled.to;
+                    more = filled.more;
+                }
+                Err(_) => status = Status::Failed,
+            }
         } else if out.len() - at < MOST_BYTES {
             status = flush(&rt, &out, at);
             at = 0;
@@ -88,9 +80,9 @@ fn main(rt: HostRuntime) {
             status = done.status;
         }
     }
-    if flush(&rt, &out, at) == GOING && status != FAILED {
+    if flush(&rt, &out, at) == Status::Going && status != Status::Failed {
         tell(status);
     } else {
-        tell(FAILED);
+        tell(Status::Failed);
     }
 }

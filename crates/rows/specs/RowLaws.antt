@@ -1,9 +1,15 @@
 -- Laws of one row: how it stands to a bound, what rests of it for a bid, an offer or a tenant.
 use Rattle.std.specs.Prelude.{◌≡◌, refl, ◌↔◌, Bool, true, false, ◌&&◌, cond, ℕ, ◌≤◌, ◌<◌, ltb, eqb}
+use Rattle.std.specs.Int.{from_bool}
 use Rattle.std.proofs.Common.{arith, le-leb, ltb-true, eqb-true}
 use Rattle.units.specs.Picked.{keep}
 use Rattle.units.specs.Says.{same_says, less_says, &&-says}
 use Rattle.rows.specs.Rows.{no_price, selling, within, buy_price, sell_price, rests_for}
+
+-- the number of a test is the 1 that it keeps
+pub from_keeps : (t : Bool) → from_bool t ≡ keep t 1
+from_keeps true = refl
+from_keeps false = refl
 
 module _ (side price bound : ℕ) where
   -- an offer that is not above the bound is within it,

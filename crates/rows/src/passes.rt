@@ -4,9 +4,7 @@ ghost use Rattle.units.specs.Lent.{found};
 ghost use Rattle.rows.specs.Rows.{rows};
 ghost use Rattle.rows.specs.Passes.{highest_buy, lowest_sell, resting_within, resting_rows, order_row, free_row};
 
-use crate::row::{
-    buy_price, greater, is_order, lesser, one, open_size, rests_for, sell_price, wide,
-};
+use crate::row::{buy_price, is_order, open_size, rests_for, sell_price};
 use crate::{Column, NO_PRICE, ROWS};
 use units::{Cents, Contracts, Total};
 
@@ -15,11 +13,9 @@ pub fn highest_buy(sides: &Column, prices: &Column, sizes: &Column) -> Cents
     ensures { result.0 ≡ highest_buy rows (found sides) (found prices) (found sizes) }
 {
     let mut most: u32 = 0;
-    let mut i: usize = 0;
-    while i < ROWS {
+    for i in 0..ROWS {
         let bid = buy_price(sides[i], Cents(prices[i]), Contracts(sizes[i]));
-        most = greater(most, bid.0);
-        i += 1;
+        most = most.max(bid.0);
     }
     Cents(most)
 }
@@ -29,11 +25,9 @@ pub fn lowest_sell(sides: &Column, prices: &Column, sizes: &Column) -> Cents
     ensures { result.0 ≡ lowest_sell rows (found sides) (found prices) (found sizes) }
 {
     let mut least: u32 = NO_PRICE;
-    let mut i: usize = 0;
-    while i < ROWS {
+    for i in 0..ROWS {
         let offer = sell_price(sides[i], Cents(prices[i]), Contracts(sizes[i]));
-        least = lesser(least, offer.0);
-        i += 1;
+        least = least.min(offer.0);
     }
     Cents(least)
 }
@@ -49,11 +43,9 @@ pub fn resting_within(
     ensures { result.0 ≡ resting_within rows (found sides) (found prices) (found sizes) side bound.0 }
 {
     let mut sum: u64 = 0;
-    let mut i: usize = 0;
-    while i < ROWS {
+    for i in 0..ROWS {
         let tradable = open_size(side, bound, sides[i], Cents(prices[i]), Contracts(sizes[i]));
-        sum += wide(tradable.0);
-        i += 1;
+        sum += u64::from(tradable.0);
     }
     Total(sum)
 }
@@ -63,10 +55,8 @@ pub fn resting_rows(owners: &Column, sizes: &Column, tenant: u32) -> u32
     ensures { result ≡ resting_rows rows (found owners) (found sizes) tenant }
 {
     let mut count: u32 = 0;
-    let mut i: usize = 0;
-    while i < ROWS {
-        count += one(rests_for(tenant, owners[i], Contracts(sizes[i])));
-        i += 1;
+    for i in 0..ROWS {
+        count += u32::from(rests_for(tenant, owners[i], Contracts(sizes[i])));
     }
     count
 }
@@ -81,26 +71,22 @@ pub fn order_row(
 ) -> usize
     ensures { result ≡ order_row rows (found owners) (found numbers) (found sizes) tenant number }
 {
-    let mut i: usize = 0;
-    while i < ROWS {
+    for i in 0..ROWS {
         if is_order(tenant, number, owners[i], numbers[i], Contracts(sizes[i])) {
             return i;
         }
-        i += 1;
     }
-    i
+    ROWS
 }
 
 // The first free row, past the last where there is none.
 pub fn free_row(sizes: &Column) -> usize
     ensures { result ≡ free_row rows (found sizes) }
 {
-    let mut i: usize = 0;
-    while i < ROWS {
+    for i in 0..ROWS {
         if sizes[i] == 0 {
             return i;
         }
-        i += 1;
     }
-    i
+    ROWS
 }

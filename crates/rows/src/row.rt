@@ -1,59 +1,9 @@
 // What one row counts for, by its side, its price, its size, its owner and its order number.
-ghost use Rattle.std.specs.Prelude.{◌≡◌, ◌-◌, min, max, ltb};
-ghost use Rattle.units.specs.Picked.{keep};
+ghost use Rattle.std.specs.Prelude.{◌≡◌, ltb};
 ghost use Rattle.rows.specs.Rows.{key_of, within, open_size, buy_price, sell_price, rests_for, is_order};
 
 use crate::{BUY, HIGHEST, NO_PRICE, SELL};
 use units::{Cents, Contracts};
-
-// The lesser of two.
-pub fn lesser(a: u32, b: u32) -> u32
-    ensures { result ≡ min a b }
-{
-    if a < b { a } else { b }
-}
-
-// The lesser of two wider numbers.
-pub fn lesser_wide(a: u64, b: u64) -> u64
-    ensures { result ≡ min a b }
-{
-    if b < a { b } else { a }
-}
-
-// The greater of two.
-pub fn greater(a: u32, b: u32) -> u32
-    ensures { result ≡ max a b }
-{
-    if a < b { b } else { a }
-}
-
-// What a has beyond b, if anything.
-pub fn beyond(a: u32, b: u32) -> u32
-    ensures { result ≡ a - b }
-{
-    if b < a { a - b } else { 0 }
-}
-
-// What a has beyond b, if anything, in wider numbers.
-pub fn beyond_wide(a: u64, b: u64) -> u64
-    ensures { result ≡ a - b }
-{
-    if a <= b { 0 } else { a - b }
-}
-
-// A number for a sum of many, which fits a wider one.
-pub fn wide(x: u32) -> u64
-    ensures { result ≡ x }
-{
-    x as u64
-}
-
-// 1 where the test holds, else 0.
-pub fn one(test: bool) -> u32
-    ensures { result ≡ keep test 1 }
-{
-    if test { 1 } else { 0 }
-}
 
 // A lower key is a better price.
 pub fn key(side: u32, price: Cents) -> u32
@@ -62,7 +12,7 @@ pub fn key(side: u32, price: Cents) -> u32
     if side == SELL {
         price.0
     } else {
-        beyond(HIGHEST, price.0)
+        HIGHEST.saturating_sub(price.0)
     }
 }
 
@@ -81,12 +31,8 @@ fn within(side: u32, price: Cents, bound: Cents) -> bool
 pub fn open_size(side: u32, bound: Cents, row_side: u32, price: Cents, size: Contracts) -> Contracts
     ensures { result.0 ≡ open_size side bound.0 row_side price.0 size.0 }
 {
-    if row_side == side {
-        if within(side, price, bound) {
-            size
-        } else {
-            Contracts(0)
-        }
+    if row_side == side && within(side, price, bound) {
+        size
     } else {
         Contracts(0)
     }
@@ -96,21 +42,15 @@ pub fn open_size(side: u32, bound: Cents, row_side: u32, price: Cents, size: Con
 pub fn reachable(side: u32, bound: Cents, row_side: u32, price: Cents, size: Contracts) -> bool
     ensures { result ≡ ltb 0 (open_size side bound.0 row_side price.0 size.0) }
 {
-    let held = 0 < size.0;
-    let near = within(side, price, bound);
-    if side == row_side {
-        if near { held } else { false }
-    } else {
-        false
-    }
+    0 < open_size(side, bound, row_side, price, size).0
 }
 
 // A row's price if it is a resting buy, else 0.
 pub(crate) fn buy_price(side: u32, price: Cents, size: Contracts) -> Cents
     ensures { result.0 ≡ buy_price side price.0 size.0 }
 {
-    if side == BUY {
-        if 0 < size.0 { price } else { Cents(0) }
+    if side == BUY && 0 < size.0 {
+        price
     } else {
         Cents(0)
     }
@@ -120,8 +60,8 @@ pub(crate) fn buy_price(side: u32, price: Cents, size: Contracts) -> Cents
 pub(crate) fn sell_price(side: u32, price: Cents, size: Contracts) -> Cents
     ensures { result.0 ≡ sell_price side price.0 size.0 }
 {
-    if side == SELL {
-        if 0 < size.0 { price } else { Cents(NO_PRICE) }
+    if side == SELL && 0 < size.0 {
+        price
     } else {
         Cents(NO_PRICE)
     }
@@ -131,7 +71,7 @@ pub(crate) fn sell_price(side: u32, price: Cents, size: Contracts) -> Cents
 pub(crate) fn rests_for(tenant: u32, owner: u32, size: Contracts) -> bool
     ensures { result ≡ rests_for tenant owner size.0 }
 {
-    if 0 < size.0 { owner == tenant } else { false }
+    0 < size.0 && owner == tenant
 }
 
 // Whether a row is the resting order of that number, and that tenant's.
@@ -144,13 +84,5 @@ pub(crate) fn is_order(
 ) -> bool
     ensures { result ≡ is_order tenant number owner row_number size.0 }
 {
-    if 0 < size.0 {
-        if owner == tenant {
-            row_number == number
-        } else {
-            false
-        }
-    } else {
-        false
-    }
+    rests_for(tenant, owner, size) && row_number == number
 }

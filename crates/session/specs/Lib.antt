@@ -1,5 +1,9 @@
 -- What the session promises: the five calls of document 01 as definitions over one market, and the reading of a tally.
 -- Files whose names end in Laws prove; the others state.
+pub mod TurnAnswer
+pub mod OpenAnswer
+pub mod Tallied
+pub mod Left
 pub mod Market
 pub mod Sound
 pub mod Settings

@@ -1,16 +1,18 @@
 -- A market: a session with the columns of its book and its lanes' entries; its parts, and the words by which contracts
 -- name it. Calls, and the numbers they answer.
-use Rattle.std.specs.Prelude.{Bool, List, ℕ}
+use Rattle.std.specs.Prelude.{Bool, Result, List, ℕ}
 use Rattle.units.specs.declared.Cents.{Cents}
-use Rattle.units.specs.Lent.{Column, ColumnMut, Lent, LentMut}
 use Rattle.book.specs.Book.{Book}
-use Rattle.book.specs.Lent.{given, before, after}
+use Rattle.book.specs.Lent.{book_in}
+use Rattle.book.specs.declared.Book.{Book as Columns}
 use Rattle.entry.specs.declared.Away.{Away}
+use Rattle.entry.specs.declared.refusal.Refusal.{Refusal}
+use Rattle.entry.specs.Refusals.{code_of}
 use Rattle.lanes.specs.declared.Lanes.{Lanes}
 use Rattle.tally.specs.declared.Tally.{Tally}
 use Rattle.dealing.specs.declared.Series.{Series}
 use Rattle.dealing.specs.Floor.{Floor, floor_of}
-use Rattle.session.specs.declared.Answered.{Answered}
+use Rattle.session.specs.Left.{Answered}
 use Rattle.session.specs.declared.Session.{Session}
 
 pub record Market : Type 0 where
@@ -34,25 +36,9 @@ pub record Done (A : Type 0) : Type 0 where
 abbrev pub market_of : Session → Book → List ℕ → Market
 market_of s book entries = record { session = s; book = book; entries = entries }
 
--- the same of lent columns and entries: in a demand, and in a promise before the call and after it
-abbrev pub market_lent : Session → ColumnMut → ColumnMut → ColumnMut → ColumnMut → ColumnMut → ColumnMut → Market
-market_lent s sides prices sizes owners numbers entries = market_of s (given sides prices sizes owners numbers) entries.now
-
-abbrev pub market_found : Session → LentMut → LentMut → LentMut → LentMut → LentMut → LentMut → Market
-market_found s sides prices sizes owners numbers entries = market_of s (before sides prices sizes owners numbers) entries.entry.now
-
-abbrev pub market_left : Session → LentMut → LentMut → LentMut → LentMut → LentMut → LentMut → Market
-market_left s sides prices sizes owners numbers entries = market_of s (after sides prices sizes owners numbers) entries.exit.now
-
--- and where the entries are lent to be read alone, as a turn is lent them
-abbrev pub market_lent_turning : Session → ColumnMut → ColumnMut → ColumnMut → ColumnMut → ColumnMut → Column → Market
-market_lent_turning s sides prices sizes owners numbers entries = market_of s (given sides prices sizes owners numbers) entries.now
-
-abbrev pub market_found_turning : Session → LentMut → LentMut → LentMut → LentMut → LentMut → Lent → Market
-market_found_turning s sides prices sizes owners numbers entries = market_of s (before sides prices sizes owners numbers) entries.entry.now
-
-abbrev pub market_left_turning : Session → LentMut → LentMut → LentMut → LentMut → LentMut → Lent → Market
-market_left_turning s sides prices sizes owners numbers entries = market_of s (after sides prices sizes owners numbers) entries.exit.now
+-- the same of the book that is lent
+abbrev pub market_in : Session → Columns → List ℕ → Market
+market_in s book entries = market_of s (book_in book) entries
 
 -- a session with other parts than those that its settings fix
 abbrev pub session_with : Session → Away → Bool → Lanes → ℕ → List Tally → Session
@@ -91,4 +77,8 @@ floor_on s b = floor_of (series_of s) s.tallies s.next b
 
 -- what a call answered, beside the book and the entries that it left
 abbrev pub answered_of : Answered → Book → List ℕ → Called
-answered_of r book entries = record { market = market_of r.session book entries; code = r.code }
+answered_of r book entries = record { market = market_of r.session book entries; code = code_of r.answer }
+
+-- the same of the session that it left and its answer
+abbrev pub called : Session → Result Unit Refusal → Book → List ℕ → Called
+called s answer book entries = answered_of (record { session = s; answer = answer }) book entries

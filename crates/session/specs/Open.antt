@@ -1,21 +1,23 @@
 -- The call open.
-use Rattle.std.specs.Prelude.{true, List, ℕ, ltb}
+use Rattle.std.specs.Prelude.{Option, true, List, ℕ, ltb, Result}
+use Rattle.units.specs.declared.Cents.{Cents}
 use Rattle.units.specs.Units.{cents, contracts}
 use Rattle.units.specs.Tests.{pick}
 use Rattle.units.specs.Cases.{Case}
 use Rattle.book.specs.Book.{Book, crosses}
 use Rattle.opening.specs.Opening.{volume, after_opening, opening_records, opening_written}
 use Rattle.price.specs.declared.Sources.{Sources}
-use Rattle.price.specs.declared.Choice.{Choice}
 use Rattle.price.specs.Price.{chosen}
 use Rattle.tally.specs.declared.Tally.{Tally}
 use Rattle.dealing.specs.Open.{tallies_opened, sources_in, choice_in, way_cases, way_refusal}
-use Rattle.session.specs.declared.OpenAnswer.{OpenAnswer}
-use Rattle.session.specs.declared.OpenAnswer.TheVariants as answer
-use Rattle.session.specs.declared.Opened.{Opened}
+use Rattle.session.specs.OpenAnswer.{OpenAnswer, open_answer_of}
+use Rattle.session.specs.OpenAnswer as answer
+use Rattle.entry.specs.declared.refusal.Refusal.{Refusal}
+use Rattle.session.specs.declared.Opening.{Opening}
+use Rattle.session.specs.Left.{Opened}
 use Rattle.session.specs.declared.Session.{Session}
-use Rattle.dealing.specs.declared.open.Way.{Way}
-use Rattle.dealing.specs.declared.open.Way.TheVariants.{Refused, Quiet, At}
+use Rattle.dealing.specs.Way.{Way}
+use Rattle.dealing.specs.Way.{Refused, Quiet, At}
 use Rattle.session.specs.Market.{Market, Done, market_of, with_opened, with_tallies, series_of}
 
 abbrev pub OpenDone : Type 0
@@ -23,7 +25,11 @@ OpenDone = Done OpenAnswer
 
 -- what an open answered, beside the book, the entries and the fill records that it left
 abbrev pub open_done : Opened → Book → List ℕ → List ℕ → OpenDone
-open_done r book entries records = record { market = market_of r.session book entries; answer = r.answer; records = records }
+open_done r book entries records = record { market = market_of r.session book entries; answer = open_answer_of r.answer; records = records }
+
+-- the same of the session that it left and its answer
+abbrev pub open_called : Session → Result Opening Refusal → Book → List ℕ → List ℕ → OpenDone
+open_called s answer book entries records = open_done (record { session = s; answer = answer }) book entries records
 
 -- the paper's values of an open
 pub record Line : Type 0 where
@@ -53,7 +59,7 @@ fills_in (answer.AtPrice price volume fills) = fills
 abbrev pub sources_of : Session → Sources
 sources_of s = sources_in (series_of s)
 
-abbrev pub choice_of : Session → Choice
+abbrev pub choice_of : Session → Option Cents
 choice_of s = choice_in (series_of s)
 
 -- the numbers in the order of checking

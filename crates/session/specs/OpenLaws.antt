@@ -14,10 +14,10 @@ use Rattle.dealing.specs.declared.open.Counted.{Counted}
 use Rattle.dealing.specs.Open.{counted_of, CanOpen, way_of}
 use Rattle.dealing.specs.Sound.{Ready}
 use Rattle.price.specs.Price.{chosen}
-use Rattle.session.specs.declared.OpenAnswer.TheVariants as answer
+use Rattle.session.specs.OpenAnswer as answer
 use Rattle.session.specs.declared.Session.{Session}
-use Rattle.dealing.specs.declared.open.Way.{Way}
-use Rattle.dealing.specs.declared.open.Way.TheVariants.{Refused, Quiet, At}
+use Rattle.dealing.specs.Way.{Way}
+use Rattle.dealing.specs.Way.{Refused, Quiet, At}
 use Rattle.session.specs.Market.{Market, market_of, series_of, floor_on}
 use Rattle.session.specs.Open.{open_refusal, choice_of, open_on, open_quiet, open_at, open_of, by_way}
 
@@ -55,3 +55,15 @@ module _ (m : Market) (was : List ℕ) where
       open_at m was price.0
   unfolding open_at counted_of
   matched_is price b records done after e₁ e₂ e₃ e₄ = rw (e₄, e₃, e₂, e₁)
+
+-- an open leaves every row its number
+pub numbers_stand : (m : Market) (lent : ℕ) (was : List ℕ) → (open_of m lent was).market.book.numbers ≡ m.book.numbers
+unfolding open_of open_at open_quiet after_opening pick
+numbers_stand m lent was = go (ltb 0 (open_refusal m lent)) (crosses m.book)
+  where
+    go : (t c : Bool) →
+        (pick t (record { market = m; answer = answer.Refused (open_refusal m lent); records = was })
+        (pick c (open_at m was (chosen (choice_of m.session))) (open_quiet m was))).market.book.numbers ≡ m.book.numbers
+    go true c = refl
+    go false true = refl
+    go false false = refl

@@ -9,8 +9,9 @@ use Rattle.opening.specs.Opening.{after_opening}
 use Rattle.opening.specs.OpeningSoundLaws.{opening_sound, opening_uncrossed}
 use Rattle.price.specs.Price.{chosen}
 use Rattle.tally.specs.declared.Tally.{Tally}
-use Rattle.session.specs.declared.OpenAnswer.TheVariants as answer
-use Rattle.session.specs.declared.Opened.{Opened}
+use Rattle.session.specs.OpenAnswer.{open_answer_of}
+use Rattle.session.specs.OpenAnswer as answer
+use Rattle.session.specs.Left.{Opened}
 use Rattle.session.specs.declared.Session.{Session}
 use Rattle.session.specs.Market.{Market, market_of}
 use Rattle.dealing.specs.OpenLaws.{opened_sums}
@@ -69,7 +70,7 @@ module _ (s : Session) (b after : Book) (lent : ℕ) (was records : List ℕ) (r
   StaysSound = (entries : List ℕ) → Sound (market_of s b entries) → Sound (market_of r.session after entries)
 
   abbrev Values : Type 0
-  Values = (entries : List ℕ) → printed r.answer ≡ printed (open_of (market_of s b entries) lent was).answer
+  Values = (entries : List ℕ) → printed (open_answer_of r.answer) ≡ printed (open_of (market_of s b entries) lent was).answer
 
   pub as_defined : Exact → Exact × (StaysSound × Values)
   as_defined exact = (

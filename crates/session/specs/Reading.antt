@@ -4,8 +4,8 @@ use Rattle.units.specs.Units.{tenants}
 use Rattle.units.specs.Tests.{pick}
 use Rattle.tally.specs.Tallies.{tally_at}
 use Rattle.session.specs.declared.Session.{Session}
-use Rattle.session.specs.declared.Tallied.{Tallied}
-use Rattle.session.specs.declared.Tallied.TheVariants as answer
+use Rattle.session.specs.Tallied.{Tallied}
+use Rattle.session.specs.Tallied as answer
 
 -- the paper's values of a reading: 0, turns taken, contracts bought and contracts sold; a refused one gives the number
 -- alone

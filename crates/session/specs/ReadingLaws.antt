@@ -7,8 +7,8 @@ use Rattle.units.specs.Units.{tenants}
 use Rattle.units.specs.Tests.{pick_yes, pick_no}
 use Rattle.tally.specs.Tallies.{tally_at}
 use Rattle.session.specs.declared.Session.{Session}
-use Rattle.session.specs.declared.Tallied.{Tallied}
-use Rattle.session.specs.declared.Tallied.TheVariants as answer
+use Rattle.session.specs.Tallied.{Tallied}
+use Rattle.session.specs.Tallied as answer
 use Rattle.session.specs.Reading.{tallied_of}
 
 -- a tally is told

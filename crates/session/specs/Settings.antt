@@ -1,8 +1,7 @@
 -- The calls settings and away.
-use Rattle.std.specs.Prelude.{Bool, true, false, List, [], ◌∷◌, ℕ, ltb, replicate}
+use Rattle.std.specs.Prelude.{Option, Some, None, Bool, true, false, List, [], ◌∷◌, ℕ, ltb, replicate}
 use Rattle.units.specs.declared.Cents.{Cents}
-use Rattle.units.specs.declared.grid.Chosen.{Chosen}
-use Rattle.units.specs.declared.grid.Chosen.TheVariants.{One, NoSuch}
+use Rattle.units.specs.declared.grid.Grid.{Grid}
 use Rattle.units.specs.Units.{cents}
 use Rattle.units.specs.Grid.{grid_of, stepping}
 use Rattle.units.specs.Tests.{◌or◌, pick}
@@ -61,9 +60,9 @@ abbrev pub reset_on : Market → Terms → Market
 reset_on m terms = record { session = started_on true terms; book = empty_book m.book.places; entries = replicate all_entries 0 }
 
 -- 7 value outside the list: the grid's number is none, or another value is out of its range
-abbrev pub on_grid_of : Market → Settings → Chosen → Called
-on_grid_of m s NoSuch = record { market = m; code = 7 }
-on_grid_of m s (One g) = pick (in_range s) (record { market = reset_on m (terms_of s g); code = 0 }) (record { market = m; code = 7 })
+abbrev pub on_grid_of : Market → Settings → Option Grid → Called
+on_grid_of m s None = record { market = m; code = 7 }
+on_grid_of m s (Some g) = pick (in_range s) (record { market = reset_on m (terms_of s g); code = 0 }) (record { market = m; code = 7 })
 
 unfoldable pub settings_of : Market → Settings → Called
 settings_of m s = on_grid_of m s (grid_of s.grid)

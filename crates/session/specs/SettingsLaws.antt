@@ -1,11 +1,9 @@
 -- The cases of settings and away.
-use Rattle.std.specs.Prelude.{◌≡◌, true, false, ℕ, ◌≤◌, ◌<◌, replicate}
+use Rattle.std.specs.Prelude.{Option, Some, None, ◌≡◌, true, false, ℕ, ◌≤◌, ◌<◌, replicate}
 use Rattle.std.proofs.Common.{sym, ◌∙◌}
 use borrow.Author.Tests.{lt-ltb, le-ltb}
 use Rattle.units.specs.declared.Cents.{Cents}
 use Rattle.units.specs.declared.grid.Grid.{Grid}
-use Rattle.units.specs.declared.grid.Chosen.{Chosen}
-use Rattle.units.specs.declared.grid.Chosen.TheVariants.{One, NoSuch}
 use Rattle.units.specs.Grid.{grid_of}
 use Rattle.units.specs.Tests.{pick}
 use Rattle.book.specs.Book.{empty_book}
@@ -19,16 +17,16 @@ use Rattle.session.specs.Settings.{started_on, settings_of, away_refusal, away_o
 
 module _ (m : Market) (s : Settings) where
   -- what of the grid of the number and of the ranges the code has in hand
-  pub settings_no_grid : {c : Chosen} → c ≡ grid_of s.grid → c ≡ NoSuch → record { market = m; code = 7 } ≡ settings_of m s
+  pub settings_no_grid : {c : Option Grid} → c ≡ grid_of s.grid → c ≡ None → record { market = m; code = 7 } ≡ settings_of m s
   unfolding settings_of
   settings_no_grid p q = rw (sym p ∙ q)
 
-  pub settings_outside : {c : Chosen} (g : Grid) → c ≡ grid_of s.grid → c ≡ One g → in_range s ≡ false → record { market = m; code = 7 } ≡ settings_of m s
+  pub settings_outside : {c : Option Grid} (g : Grid) → c ≡ grid_of s.grid → c ≡ Some g → in_range s ≡ false → record { market = m; code = 7 } ≡ settings_of m s
   unfolding settings_of pick
   settings_outside g p q h = rw (sym p ∙ q, h)
 
   pub settings_accepted :
-      {c : Chosen} (g : Grid) (t : Terms) (after : Session) → c ≡ grid_of s.grid → c ≡ One g → in_range s ≡ true → t ≡ terms_of s g →
+      {c : Option Grid} (g : Grid) (t : Terms) (after : Session) → c ≡ grid_of s.grid → c ≡ Some g → in_range s ≡ true → t ≡ terms_of s g →
       after ≡ started_on true t →
       record { market = record { session = after; book = empty_book m.book.places; entries = replicate all_entries 0 }; code = 0 } ≡ settings_of m s
   unfolding settings_of pick

@@ -1,16 +1,14 @@
 -- A new session is sound beside anything, and settings and away keep a market sound.
-use Rattle.std.specs.Prelude.{◌≡◌, Bool, List, ℕ, ◌≤◌, ltb, replicate}
+use Rattle.std.specs.Prelude.{Option, Some, None, ◌≡◌, Bool, List, ℕ, ◌≤◌, ltb, replicate}
 use Rattle.std.proofs.Math.Path.{refl}
 use Rattle.std.proofs.Common.{sym, subst, arith}
 use Rattle.std.proofs.Math.Bool.{true, false}
 use Rattle.std.proofs.lemmas.Bool.{false≢true}
-use Rattle.std.proofs.lemmas.List.{length-replicate, get_or-replicate}
+use Rattle.std.proofs.lemmas.List.{length-replicate}
 use borrow.Author.Tests.{ltb-false}
 use Rattle.units.specs.Units.{tenants}
 use Rattle.units.specs.declared.Cents.{Cents}
 use Rattle.units.specs.declared.grid.Grid.{Grid}
-use Rattle.units.specs.declared.grid.Chosen.{Chosen}
-use Rattle.units.specs.declared.grid.Chosen.TheVariants.{One, NoSuch}
 use Rattle.units.specs.Grid.{grid_of}
 use Rattle.units.specs.GridLaws.{lowest_bounds}
 use Rattle.units.specs.Tests.{is_not, pick, and_true, or_false, not_holds, order, less, equal, more}
@@ -25,10 +23,10 @@ use Rattle.entry.specs.declared.Terms.{Terms}
 use Rattle.entry.specs.Settings.{in_range, terms_of}
 use Rattle.entry.specs.SettingsLaws.{strike_bounds, buffers_most}
 use Rattle.lanes.specs.Ring.{all_entries, empty}
-use Rattle.lanes.specs.Marks.{empty_marked}
+use Rattle.lanes.specs.Marks.{empty_len, empty_marked}
 use Rattle.tally.specs.Tallies as tallies
 use Rattle.tally.specs.TallyLaws.{in_all_none}
-use Rattle.session.specs.declared.Answered.{Answered}
+use Rattle.session.specs.Left.{Answered}
 use Rattle.session.specs.declared.Session.{Session}
 use Rattle.session.specs.Market.{Market, Called, market_of, answered_of, with_away, floor_on}
 use Rattle.session.specs.Settings.{started_on, no_terms, new_session, reset_on, on_grid_of, settings_of, too_high, away_cases, away_refusal, away_of}
@@ -51,7 +49,7 @@ answer_sound e sound = subst (λ (c : Called). Sound c.market) (sym e) sound
 
 -- ---- settings
 
-terms_sound : (s : Settings) (g : Grid) → grid_of s.grid ≡ One g → in_range s ≡ true → SoundTerms (terms_of s g)
+terms_sound : (s : Settings) (g : Grid) → grid_of s.grid ≡ Some g → in_range s ≡ true → SoundTerms (terms_of s g)
 terms_sound s g h ok =
     let low = lowest_bounds s.grid g h in
     let buffers = buffers_most s ok in
@@ -72,7 +70,7 @@ empty_lanes =
     record {
       entries_long = length-replicate {A = ℕ} all_entries 0;
       marks = empty_marked;
-      formed = λ t i p h. absurd (omega (arith, get_or-replicate {A = ℕ} tenants t 0 0 p));
+      formed = λ t i p h. absurd (omega (arith, empty_len t p));
     }
 
 module _ (m : Market) (all : m.book.places ≡ rows) where
@@ -101,10 +99,10 @@ module _ (m : Market) (all : m.book.places ≡ rows) where
   }
 
   module _ (s : Settings) (sound : Sound m) where
-    is_on_grid : (c : Chosen) → grid_of s.grid ≡ c → Sound (on_grid_of m s c).market
+    is_on_grid : (c : Option Grid) → grid_of s.grid ≡ c → Sound (on_grid_of m s c).market
     unfolding pick
-    is_on_grid NoSuch h = sound
-    is_on_grid (One g) h = is_in_range (in_range s) refl
+    is_on_grid None h = sound
+    is_on_grid (Some g) h = is_in_range (in_range s) refl
       where
         is_in_range : (ok : Bool) → in_range s ≡ ok →
             Sound (pick {A = Called} ok (record { market = reset_on m (terms_of s g); code = 0 }) (record { market = m; code = 7 })).market

@@ -10,7 +10,7 @@ use Rattle.lanes.specs.RingLaws.{put_all_length}
 use Rattle.lanes.specs.Asked.{CanJoin}
 use Rattle.lanes.specs.Marks.{join_marked}
 use Rattle.lanes.specs.Waiting.{put_each}
-use Rattle.session.specs.declared.Answered.{Answered}
+use Rattle.session.specs.Left.{Answered}
 use Rattle.session.specs.declared.Session.{Session}
 use Rattle.session.specs.Market.{Market, market_of, answered_of}
 use Rattle.session.specs.Submit.{submit_refusal, with_entries, submit_of}

@@ -1,6 +1,6 @@
 -- A turn that is not refused takes the head entry of the lane served: what it has, and that what a market holds is held
 -- once the turn is taken.
-use Rattle.std.specs.Prelude.{◌≡◌, refl, true, false, List, ℕ, ◌+◌, ◌*◌, ◌≤◌, ◌<◌, leb, ltb, length}
+use Rattle.std.specs.Prelude.{Option, Some, None, ◌≡◌, refl, true, false, List, ℕ, ◌+◌, ◌*◌, ◌≤◌, ◌<◌, leb, ltb, length}
 use Rattle.std.proofs.Common.{◌∙◌, true≢false, arith, leb-false, ltb-false}
 use Rattle.units.specs.Tests.{is_not, and_true, not_holds, not_false}
 use Rattle.units.specs.CaseLaws.{given_none}
@@ -8,8 +8,6 @@ use Rattle.rows.specs.Rows.{rows}
 use Rattle.book.specs.Records.{fields}
 use Rattle.entry.specs.Entry.{malformed}
 use Rattle.lanes.specs.declared.Lanes.{Lanes}
-use Rattle.lanes.specs.declared.Served.{Served}
-use Rattle.lanes.specs.declared.Served.TheVariants.{Lane, Nobody}
 use Rattle.lanes.specs.Ring.{taken}
 use Rattle.lanes.specs.Rotation.{served}
 use Rattle.lanes.specs.Asked.{CanTake}
@@ -31,13 +29,13 @@ pub record Takes (s : Session) (lent : ℕ) : Type 0 where
   pub set : s.accepted ≡ true
   -- the lane served
   pub lane : ℕ
-  pub serves : served s.lanes ≡ Lane lane
+  pub serves : served s.lanes ≡ Some lane
   pub room : rows ≤ lent
   pub turns : turns_in_all s.tallies < most_turns
 
-some_lane : (x : Served) → nobody x ≡ false → (t : ℕ) × (x ≡ Lane t)
-some_lane (Lane t) h = (t, refl)
-some_lane Nobody h = absurd (true≢false h)
+some_lane : (x : Option ℕ) → nobody x ≡ false → (t : ℕ) × (x ≡ Some t)
+some_lane (Some t) h = (t, refl)
+some_lane None h = absurd (true≢false h)
 
 pub takes : (s : Session) (lent : ℕ) → turn_refusal s lent ≡ 0 → Takes s lent
 unfolding turn_refusal
@@ -70,7 +68,7 @@ take_sound l entries t s can = record {
 }
 
 -- the lane served in a market that holds, and its head entry
-module _ (m : Market) (held : Held m) (t : ℕ) (serves : served m.session.lanes ≡ Lane t) where
+module _ (m : Market) (held : Held m) (t : ℕ) (serves : served m.session.lanes ≡ Some t) where
   pub can_take : CanTake m.session.lanes t
   can_take = served_can_take m.session.lanes t held.lanes.marks serves
 

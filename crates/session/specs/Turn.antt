@@ -1,30 +1,32 @@
 -- The call turn.
-use Rattle.std.specs.Prelude.{Bool, true, false, List, [], ◌∷◌, ℕ, leb, ltb}
-use Rattle.units.specs.Lent.{Lent, LentMut}
+use Rattle.std.specs.Prelude.{Option, Some, None, Bool, true, false, List, [], ◌∷◌, ℕ, leb, ltb, Result, Ok, Err}
 use Rattle.units.specs.Tests.{pick}
 use Rattle.units.specs.Cases.{Case, ◌when◌, first_of}
 use Rattle.rows.specs.Rows.{rows}
 use Rattle.book.specs.Book.{Book}
-use Rattle.book.specs.Lent.{after}
 use Rattle.entry.specs.declared.Entry.{Entry}
 use Rattle.entry.specs.declared.Quotes.{Quotes}
+use Rattle.entry.specs.declared.refusal.Refusal.{Refusal}
+use Rattle.entry.specs.Refusals.{refusal_number}
 use Rattle.checks.specs.declared.Standing.{Standing}
-use Rattle.lanes.specs.declared.Served.{Served}
-use Rattle.lanes.specs.declared.Served.TheVariants.{Lane, Nobody}
 use Rattle.lanes.specs.Ring.{waiting_at, taken}
 use Rattle.lanes.specs.Rotation.{served}
 use Rattle.tally.specs.Tallies.{counted, turns_in_all, most_turns}
 use Rattle.tally.specs.declared.Tally.{Tally}
 use Rattle.dealing.specs.declared.Dealt.{Dealt}
-use Rattle.dealing.specs.declared.Came.{Came}
-use Rattle.dealing.specs.declared.Came.TheVariants as came
+use Rattle.dealing.specs.declared.Came.{Came as Told}
+use Rattle.dealing.specs.declared.Came.TheVariants as told
+use Rattle.dealing.specs.Came.{Came, came_of}
+use Rattle.dealing.specs.Came as came
 use Rattle.dealing.specs.Floor.{Made, next_after}
 use Rattle.dealing.specs.Deal.{quotes_on, standing_on, dealt}
 use Rattle.dealing.specs.Open.{unset}
 use Rattle.session.specs.declared.Session.{Session}
-use Rattle.session.specs.declared.Turned.{Turned}
-use Rattle.session.specs.declared.TurnAnswer.{TurnAnswer}
-use Rattle.session.specs.declared.TurnAnswer.TheVariants as answer
+use Rattle.session.specs.declared.Taken.{Taken}
+use Rattle.session.specs.declared.Taken.TheVariants as taken
+use Rattle.session.specs.Left.{Turned}
+use Rattle.session.specs.TurnAnswer.{TurnAnswer, turn_answer_of}
+use Rattle.session.specs.TurnAnswer as answer
 use Rattle.session.specs.Market.{Market, Done, market_of, with_lanes, with_next, with_tallies, floor_on}
 
 abbrev pub TurnDone : Type 0
@@ -32,12 +34,11 @@ TurnDone = Done TurnAnswer
 
 -- what a turn answered, beside the book, the entries and the fill records that it left
 abbrev pub turn_done : Turned → Book → List ℕ → List ℕ → TurnDone
-turn_done r book entries records = record { market = market_of r.session book entries; answer = r.answer; records = records }
+turn_done r book entries records = record { market = market_of r.session book entries; answer = turn_answer_of r.answer; records = records }
 
--- the same of lent columns, entries and fill records
-abbrev pub turn_left : Turned → LentMut → LentMut → LentMut → LentMut → LentMut → Lent → LentMut → TurnDone
-turn_left r sides prices sizes owners numbers entries records =
-    turn_done r (after sides prices sizes owners numbers) entries.exit.now records.exit.now
+-- the same of the session that it left and its answer
+abbrev pub turn_called : Session → Result Taken Refusal → Book → List ℕ → List ℕ → TurnDone
+turn_called s answer book entries records = turn_done (record { session = s; answer = answer }) book entries records
 
 -- the paper's values of a taken turn
 pub record Line : Type 0 where
@@ -79,9 +80,9 @@ fills_in (answer.Cancelled tenant number) = 0
 fills_in (answer.Accepted tenant number filled disposition fills) = fills
 
 -- no lane has an entry
-abbrev pub nobody : Served → Bool
-nobody (Lane t) = false
-nobody Nobody = true
+abbrev pub nobody : Option ℕ → Bool
+nobody (Some t) = false
+nobody None = true
 
 -- the numbers in the order of checking: 5 no lane has an entry, 6 fewer than 216 fill records lent, 35 the tallies show
 -- 1,000,000,000,000,000,000 turns taken in all
@@ -95,6 +96,11 @@ turn_cases s lent =
 
 unfoldable pub turn_refusal : Session → ℕ → ℕ
 turn_refusal s lent = first_of 0 (turn_cases s lent)
+
+-- a turn that serves a lane is not refused
+abbrev pub turn_code : Result ℕ Refusal → ℕ
+turn_code (Ok t) = 0
+turn_code (Err why) = refusal_number why
 
 -- A taken turn removes the head entry of its lane and moves the place to the tenant after it; it counts as a turn of
 -- that tenant.
@@ -134,17 +140,22 @@ turn_made m t d = record {
 }
 
 -- the same, as the turn returns it
+abbrev pub taken_of : ℕ → Told → Taken
+taken_of t (told.TurnedDown why) = taken.TurnedDown t why
+taken_of t (told.Cancelled number) = taken.Cancelled t number
+taken_of t (told.Accepted number filled disposition fills) = taken.Accepted t number filled disposition fills
+
 abbrev pub turned_by : Session → ℕ → Dealt → Turned
-turned_by s t done = record { session = session_after s done.tallies done.came; answer = answer_of t done.came }
+turned_by s t done = record { session = session_after s done.tallies (came_of done.came); answer = Ok (taken_of t done.came) }
 
 -- The entry of a taken turn is dealt with once the turn is taken.
 abbrev pub entry_turn : Market → ℕ → List ℕ → Entry → TurnDone
 entry_turn m t was e = turn_made m t (dealt (floor_on m.session m.book) t was e)
 
 -- the turn of the lane served, with its head entry
-abbrev pub turn_of_lane : Market → List ℕ → Served → TurnDone
-turn_of_lane m was (Lane t) = entry_turn (once_taken m t) t was (head_entry m t)
-turn_of_lane m was Nobody = record { market = m; answer = answer.Refused 5; records = was }
+abbrev pub turn_of_lane : Market → List ℕ → Option ℕ → TurnDone
+turn_of_lane m was (Some t) = entry_turn (once_taken m t) t was (head_entry m t)
+turn_of_lane m was None = record { market = m; answer = answer.Refused 5; records = was }
 
 -- a refused turn returns the number alone and alters nothing
 unfoldable pub turn_of : Market → ℕ → List ℕ → TurnDone

@@ -1,5 +1,5 @@
 -- The cases of a turn, as the code meets them.
-use Rattle.std.specs.Prelude.{◌≡◌, true, false, List, ℕ, ◌*◌, ◌≤◌, ◌<◌, length}
+use Rattle.std.specs.Prelude.{Option, Some, None, ◌≡◌, refl, true, false, Ok, List, ℕ, ◌*◌, ◌≤◌, ◌<◌, length}
 use Rattle.std.proofs.Math.Path.{sym}
 use Rattle.std.proofs.Common.{ap, ◌∙◌, arith}
 use borrow.Author.Tests.{lt-ltb, le-ltb, le-leb, lt-leb}
@@ -9,25 +9,27 @@ use Rattle.rows.specs.Rows.{rows, no_number}
 use Rattle.book.specs.Book.{Book}
 use Rattle.entry.specs.declared.Entry.{Entry}
 use Rattle.lanes.specs.declared.Lanes.{Lanes}
-use Rattle.lanes.specs.declared.Served.{Served}
-use Rattle.lanes.specs.declared.Served.TheVariants.{Lane, Nobody}
 use Rattle.lanes.specs.Asked.{CanTake}
 use Rattle.lanes.specs.Ring.{taken}
 use Rattle.lanes.specs.Rotation.{served}
 use Rattle.tally.specs.declared.Tally.{Tally}
 use Rattle.tally.specs.Tallies.{counted, turns_in_all, most_turns, Countable}
+use Rattle.dealing.specs.declared.Came.{Came as Told}
+use Rattle.dealing.specs.declared.Came.TheVariants as told
+use Rattle.dealing.specs.Came.{came_of}
 use Rattle.dealing.specs.declared.Dealt.{Dealt}
 use Rattle.dealing.specs.Demands.{CanDeal}
 use Rattle.dealing.specs.declared.Series.{Series}
 use Rattle.dealing.specs.Deal.{dealt}
 use Rattle.dealing.specs.Floor.{Made, floor_of, made_of, next_after}
 use Rattle.session.specs.declared.Session.{Session}
-use Rattle.session.specs.declared.Turned.{Turned}
-use Rattle.session.specs.declared.TurnAnswer.{TurnAnswer}
-use Rattle.session.specs.declared.TurnAnswer.TheVariants as answer
+use Rattle.session.specs.Left.{Turned}
+use Rattle.session.specs.declared.Taken.{Taken}
+use Rattle.session.specs.TurnAnswer.{turn_answer_of}
+use Rattle.session.specs.TurnAnswer as answer
 use Rattle.session.specs.Market.{Market, market_of, with_lanes, with_next, with_tallies, series_of}
 use Rattle.session.specs.Sound.{Sound}
-use Rattle.session.specs.Turn.{TurnDone, turn_done, printed, turn_refusal, after_taking, head_entry, answer_of, turn_made, turned_by, turn_of}
+use Rattle.session.specs.Turn.{TurnDone, turn_done, printed, turn_refusal, after_taking, head_entry, answer_of, session_after, turn_made, taken_of, turned_by, turn_of}
 use Rattle.session.specs.TakingLaws.{Takes, takes}
 use Rattle.session.specs.TakingLaws as taking
 use Rattle.session.specs.TurnSoundLaws.{turn_sound}
@@ -38,12 +40,12 @@ module _ (s : Session) (lent : ℕ) where
   unfolding turn_refusal pick is_not
   refused_21 h = rw h
 
-  module _ (set : s.accepted ≡ true) {lane : Served} (is : lane ≡ served s.lanes) where
-    pub refused_5 : lane ≡ Nobody → 5 ≡ turn_refusal s lent
+  module _ (set : s.accepted ≡ true) {lane : Option ℕ} (is : lane ≡ served s.lanes) where
+    pub refused_5 : lane ≡ None → 5 ≡ turn_refusal s lent
     unfolding turn_refusal pick is_not
     refused_5 h = rw (set, sym is ∙ h)
 
-    module _ (t : ℕ) (busy : lane ≡ Lane t) where
+    module _ (t : ℕ) (busy : lane ≡ Some t) where
       pub refused_6 : lent < rows → 6 ≡ turn_refusal s lent
       unfolding turn_refusal pick is_not
       refused_6 h = rw (set, sym is ∙ busy, lt-ltb lent rows h)
@@ -68,27 +70,40 @@ taking_is s t l ts p q = rw (p, q)
 
 -- what is left of a session, as the code stores it
 pub turned_is :
-    (s : Session) (t : ℕ) (done : Dealt) (next : ℕ) (a : TurnAnswer) → next ≡ next_after s.next done.came → a ≡ answer_of t done.came →
-    ◌≡◌ {A = Turned} (record { session = with_tallies (with_next s next) done.tallies; answer = a }) (turned_by s t done)
-turned_is s t done next a e f = λ i. record { session = with_tallies (with_next s (e i)) done.tallies; answer = f i }
+    (s : Session) (t : ℕ) (done : Dealt) (next : ℕ) (a : Taken) → next ≡ next_after s.next (came_of done.came) → a ≡ taken_of t done.came →
+    ◌≡◌ {A = Turned} (record { session = with_tallies (with_next s next) done.tallies; answer = Ok a }) (turned_by s t done)
+turned_is s t done next a e f = λ i. record { session = with_tallies (with_next s (e i)) done.tallies; answer = Ok (f i) }
+
+-- what a taken turn returns is what it answers
+answers_so : (t : ℕ) (c : Told) → turn_answer_of (Ok (taken_of t c)) ≡ answer_of t (came_of c)
+answers_so t (told.TurnedDown why) = refl
+answers_so t (told.Cancelled number) = refl
+answers_so t (told.Accepted number filled disposition fills) = refl
 
 -- the entry of a turn, as the code has it: what was made of what it met, and stored
 pub entry_is :
     (m : Market) (t : ℕ) (b : Book) (records : List ℕ) (done : Dealt) (r : Turned) (d : Made) → made_of done b records ≡ d → r ≡ turned_by m.session t done →
     turn_done r b m.entries records ≡ turn_made m t d
-entry_is m t b records done r d e is = rw is (ap (turn_made m t) e)
+entry_is m t b records done r d e is = rw is (answered ∙ ap (turn_made m t) e)
+  where
+    answered : turn_done (turned_by m.session t done) b m.entries records ≡ turn_made m t (made_of done b records)
+    answered = λ i. record {
+      market = market_of (session_after m.session done.tallies (came_of done.came)) b m.entries;
+      answer = answers_so t done.came i;
+      records = records;
+    }
 
 module _ (m : Market) (lent : ℕ) (was : List ℕ) (code : ℕ) (is : code ≡ turn_refusal m.session lent) where
   pub turn_refused : 0 < code → record { market = m; answer = answer.Refused code; records = was } ≡ turn_of m lent was
   unfolding turn_of pick
   turn_refused h = rw (← is, lt-ltb 0 code h)
 
-  module _ (given : code ≤ 0) {lane : Served} (next : lane ≡ served m.session.lanes) where
-    pub turn_nobody : lane ≡ Nobody → record { market = m; answer = answer.Refused 5; records = was } ≡ turn_of m lent was
+  module _ (given : code ≤ 0) {lane : Option ℕ} (next : lane ≡ served m.session.lanes) where
+    pub turn_nobody : lane ≡ None → record { market = m; answer = answer.Refused 5; records = was } ≡ turn_of m lent was
     unfolding turn_of pick
     turn_nobody h = rw (← is, le-ltb 0 code given, sym next ∙ h)
 
-    module _ (t : ℕ) (busy : lane ≡ Lane t) where
+    module _ (t : ℕ) (busy : lane ≡ Some t) where
       pub turn_taken :
           (e : Entry) (after : Session) (series : Series) (done : Dealt) (b : Book) (records : List ℕ) (r : Turned) → e ≡ head_entry m t →
           after ≡ after_taking m.session t → series ≡ series_of after →
@@ -103,7 +118,7 @@ module _ (m : Market) (lent : ℕ) (was : List ℕ) (code : ℕ) (is : code ≡ 
         held : Takes m.session lent
         held = takes m.session lent (sym is ∙ omega arith)
 
-        serves : served m.session.lanes ≡ Lane t
+        serves : served m.session.lanes ≡ Some t
         serves = sym next ∙ busy
 
         pub can_take : CanTake m.session.lanes t

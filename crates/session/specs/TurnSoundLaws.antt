@@ -8,7 +8,7 @@ use Rattle.entry.specs.Entry.{malformed}
 use Rattle.lanes.specs.Rotation.{served}
 use Rattle.dealing.specs.Sound.{Kept}
 use Rattle.dealing.specs.SoundLaws.{dealt_kept}
-use Rattle.session.specs.declared.TurnAnswer.TheVariants as answer
+use Rattle.session.specs.TurnAnswer as answer
 use Rattle.session.specs.Market.{Market, floor_on}
 use Rattle.session.specs.Turn.{TurnDone, turn_refusal, once_taken, head_entry, entry_turn, turn_of_lane, turn_of}
 use Rattle.session.specs.Sound.{Held, Sound}

@@ -17,9 +17,11 @@ ghost use Rattle.session.specs.Sound.{Sound};
 
 use crate::settings::started;
 use dealing::Series;
+use entry::refusal::{Refusal, TurnDown};
 use entry::{Away, Terms};
+use judge::outcome::Disposition;
 use lanes::Lanes;
-use tally::{Tallies, Tally};
+use tally::Tallies;
 use units::grid::Grid;
 use units::{Cents, Contracts};
 
@@ -40,13 +42,12 @@ pub struct Session {
 fn no_terms() -> Terms
     ensures { result ≡ no_terms }
 {
-    let grid = Grid {
-        low: Cents(0),
-        high: Cents(0),
-    };
     Terms {
         allocation: 0,
-        grid: grid,
+        grid: Grid {
+            low: Cents(0),
+            high: Cents(0),
+        },
         put: false,
         strike: Cents(0),
         drill: Cents(0),
@@ -59,19 +60,6 @@ fn no_terms() -> Terms
     }
 }
 
-// The parts of the series.
-fn series_of(s: Session) -> Series
-    ensures { result ≡ series_of s }
-{
-    let terms = s.terms;
-    let away = s.away;
-    Series {
-        terms: terms,
-        away: away,
-        opened: s.opened,
-    }
-}
-
 impl Session {
     // No accepted settings yet: all calls but settings answer 21, whatever book and entries are lent.
     pub fn new() -> Session
@@ -80,49 +68,33 @@ impl Session {
     {
         started(false, no_terms())
     }
+
+    // The parts of the series.
+    fn series(&self) -> Series
+        ensures { result ≡ series_of self.now }
+    {
+        Series {
+            terms: self.terms,
+            away: self.away,
+            opened: self.opened,
+        }
+    }
 }
 
-// What settings, away and submit answer: 0, or the number of the refusal.
+// What a taken turn of a tenant comes to: its entry is turned down; or cancels the order of a number; or is accepted as
+// the order of a number, with the contracts filled, its disposition, and how many fill records it wrote.
 #[derive(Clone, Copy)]
-pub struct Answered {
-    pub session: Session,
-    pub code: u32,
-}
-
-// What a turn answers: refused by a number; or a taken turn of a tenant, whose entry is turned down by a number, or
-// cancels an order, or is accepted as an order, with the contracts filled, its disposition, and how many fill records
-// it wrote.
-#[derive(Clone, Copy)]
-pub enum TurnAnswer {
-    Refused(u32),
-    TurnedDown(usize, u32),
+pub enum Taken {
+    TurnedDown(usize, TurnDown),
     Cancelled(usize, u32),
-    Accepted(usize, u32, Contracts, u32, usize),
+    Accepted(usize, u32, Contracts, Disposition, usize),
 }
 
+// What an opening comes to: the price and the volume, both 0 where no resting buy was at or above a resting sell, and
+// how many fill records it wrote.
 #[derive(Clone, Copy)]
-pub struct Turned {
-    pub session: Session,
-    pub answer: TurnAnswer,
-}
-
-// What an opening answers: refused by a number; or the price and the volume, both 0 where no resting buy was at or
-// above a resting sell, and how many fill records it wrote.
-#[derive(Clone, Copy)]
-pub enum OpenAnswer {
-    Refused(u32),
-    AtPrice(Cents, Contracts, usize),
-}
-
-#[derive(Clone, Copy)]
-pub struct Opened {
-    pub session: Session,
-    pub answer: OpenAnswer,
-}
-
-// What the reading of a tally answers: refused by a number; or the tally of the tenant.
-#[derive(Clone, Copy)]
-pub enum Tallied {
-    Refused(u32),
-    Of(Tally),
+pub struct Opening {
+    pub price: Cents,
+    pub volume: Contracts,
+    pub fills: usize,
 }

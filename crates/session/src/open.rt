@@ -1,75 +1,56 @@
 // The call open.
-ghost use Rattle.std.specs.Prelude.{◌≡◌, List, ℕ, ◌*◌, length};
-ghost use Rattle.rows.specs.Rows.{rows};
-ghost use Rattle.book.specs.Records.{fields};
-ghost use Rattle.book.specs.Lent.{given_sizing, before_sizing, after_sizing};
-ghost use Rattle.session.specs.Market.{market_of};
+ghost use Rattle.std.specs.Prelude.{◌≡◌, List, ℕ};
+ghost use Rattle.book.specs.Lent.{book_in};
+ghost use Rattle.session.specs.Market.{market_in};
+ghost use Rattle.session.specs.OpenAnswer.{open_answer_of};
 ghost use Rattle.session.specs.Sound.{BookSound, Sound};
-ghost use Rattle.session.specs.Open.{open_done, printed, open_on, open_of};
+ghost use Rattle.session.specs.Open.{open_called, printed, open_on, open_of};
 
-use crate::{OpenAnswer, Opened, Session, series_of};
-use book::Records;
-use dealing::open::{Way, open_book, which_way};
-use rows::Column;
+use crate::{Opening, Session};
+use book::{Book, Records};
+use dealing::open::{open_book, which_way};
+use entry::refusal::Refusal;
 use tally::Tallies;
 use units::{Cents, Contracts};
 
-// The session once open.
-fn open_on(s: Session, tallies: Tallies) -> Session
-    ensures { result ≡ open_on s tallies }
-{
-    let mut after = s;
-    after.opened = true;
-    after.tallies = tallies;
-    after
-}
+impl Session {
+    // The session once open.
+    fn open_on(&mut self, tallies: Tallies)
+        ensures { self.new ≡ open_on self.old tallies }
+    {
+        self.opened = true;
+        self.tallies = tallies;
+    }
 
-// Opens the series, or refuses.
-pub fn open_core(
-    s: Session,
-    sides: &Column,
-    prices: &Column,
-    sizes: &mut Column,
-    owners: &Column,
-    numbers: &Column,
-    lent: usize,
-    records: &mut Records,
-) -> Opened
-    requires book_sound { BookSound s (given_sizing sides prices sizes owners numbers) }
-    requires records_len { length records.old ≡ fields * rows }
-    ensures exact { (entries : List ℕ) → open_done result (after_sizing sides prices sizes owners numbers) entries records.new
-        ≡ open_of (market_of s (before_sizing sides prices sizes owners numbers) entries) lent records.old }
-    ensures sound { (entries : List ℕ) → Sound (market_of s (before_sizing sides prices sizes owners numbers) entries)
-        → Sound (market_of result.session (after_sizing sides prices sizes owners numbers) entries) }
-    ensures values { (entries : List ℕ) → printed result.answer
-        ≡ printed (open_of (market_of s (before_sizing sides prices sizes owners numbers) entries) lent records.old).answer }
-{
-    let accepted = s.accepted;
-    let series = series_of(s);
-    let way = which_way(accepted, series, lent, sides, prices, sizes);
-    match way {
-        Way::Refused(code) => Opened {
-            session: s,
-            answer: OpenAnswer::Refused(code),
-        },
-        Way::Quiet => {
-            let tallies = s.tallies;
-            Opened {
-                session: open_on(s, tallies),
-                answer: OpenAnswer::AtPrice(Cents(0), Contracts(0), 0),
-            }
-        }
-        Way::At(price) => {
-            let tallies = s.tallies;
-            let done = open_book(
-                tallies, price, sides, prices, sizes, owners, numbers, records,
-            );
-            let counted = done.tallies;
-            let volume = done.volume;
-            Opened {
-                session: open_on(s, counted),
-                answer: OpenAnswer::AtPrice(price, volume, done.fills),
-            }
-        }
+    // Opens the series, or refuses.
+    pub fn open_core(
+        &mut self,
+        book: &mut Book,
+        lent: usize,
+        records: &mut Records,
+    ) -> Result<Opening, Refusal>
+        requires { BookSound self.old (book_in book.old) }
+        ensures exact { (entries : List ℕ) → open_called self.new result (book_in book.new) entries records.new
+            ≡ open_of (market_in self.old book.old entries) lent records.old }
+        ensures sound { (entries : List ℕ) → Sound (market_in self.old book.old entries)
+            → Sound (market_in self.new book.new entries) }
+        ensures values { (entries : List ℕ) → printed (open_answer_of result)
+            ≡ printed (open_of (market_in self.old book.old entries) lent records.old).answer }
+    {
+        let Some(price) = which_way(self.accepted, self.series(), lent, book)? else {
+            self.open_on(self.tallies);
+            return Ok(Opening {
+                price: Cents(0),
+                volume: Contracts(0),
+                fills: 0,
+            });
+        };
+        let done = open_book(self.tallies, price, book, records);
+        self.open_on(done.tallies);
+        Ok(Opening {
+            price,
+            volume: done.volume,
+            fills: done.fills,
+        })
     }
 }

@@ -1,79 +1,59 @@
 // The call settings.
 ghost use Rattle.std.specs.Prelude.{◌≡◌};
-ghost use Rattle.book.specs.Lent.{after};
-ghost use Rattle.session.specs.Market.{market_found, market_left, answered_of};
+ghost use Rattle.book.specs.Lent.{book_in};
+ghost use Rattle.session.specs.Market.{market_in, called};
 ghost use Rattle.session.specs.Settings.{started_on, settings_of};
 ghost use Rattle.session.specs.Sound.{Sound};
 
-use crate::{Answered, Session};
+use crate::Session;
+use book::Book;
 use entry::ranges::{in_range, terms_of};
+use entry::refusal::Refusal;
 use entry::{Away, Settings, Terms};
 use lanes::{ALL_ENTRIES, Entries, Lanes};
-use rows::Column;
 use units::Cents;
-use units::grid::{Chosen, Grid};
+use units::grid::Grid;
 
 // A session on new terms: nothing rests, waits or is counted, the rotation is at tenant 0 and the series unopened.
 pub(crate) fn started(accepted: bool, terms: Terms) -> Session
     ensures { result ≡ started_on accepted terms }
 {
-    let away = Away {
-        bid: Cents(0),
-        offer: Cents(0),
-    };
-    let lanes = Lanes::new();
-    let tallies = tally::none();
     Session {
-        accepted: accepted,
-        terms: terms,
-        away: away,
+        accepted,
+        terms,
+        away: Away {
+            bid: Cents(0),
+            offer: Cents(0),
+        },
         opened: false,
-        lanes: lanes,
+        lanes: Lanes::new(),
         next: 1,
-        tallies: tallies,
+        tallies: tally::none(),
     }
 }
 
-// Accepted settings start all of the market anew.
-pub fn settings(
-    s: Session,
-    given: Settings,
-    sides: &mut Column,
-    prices: &mut Column,
-    sizes: &mut Column,
-    owners: &mut Column,
-    numbers: &mut Column,
-    entries: &mut Entries,
-) -> Answered
-    ensures exact { answered_of result (after sides prices sizes owners numbers) entries.new
-        ≡ settings_of (market_found s sides prices sizes owners numbers entries) given }
-    ensures sound { Sound (market_found s sides prices sizes owners numbers entries)
-        → Sound (market_left result.session sides prices sizes owners numbers entries) }
-{
-    let chosen = Grid::of(given.grid);
-    let Chosen::One(grid) = chosen else {
-        return Answered {
-            session: s,
-            code: 7,
+impl Session {
+    // Accepted settings start all of the market anew.
+    pub fn settings(
+        &mut self,
+        given: Settings,
+        book: &mut Book,
+        entries: &mut Entries,
+    ) -> Result<(), Refusal>
+        ensures exact { called self.new result (book_in book.new) entries.new
+            ≡ settings_of (market_in self.old book.old entries.old) given }
+        ensures sound { Sound (market_in self.old book.old entries.old)
+            → Sound (market_in self.new book.new entries.new) }
+    {
+        let Some(grid) = Grid::of(given.grid) else {
+            return Err(Refusal::OutOfRange);
         };
-    };
-    if in_range(given) {
-        *sides = [0u32; 216];
-        *prices = [0u32; 216];
-        *sizes = [0u32; 216];
-        *owners = [0u32; 216];
-        *numbers = [0u32; 216];
-        *entries = [0u32; ALL_ENTRIES];
-        let terms = terms_of(given, grid);
-        let after = started(true, terms);
-        Answered {
-            session: after,
-            code: 0,
+        if !in_range(given) {
+            return Err(Refusal::OutOfRange);
         }
-    } else {
-        Answered {
-            session: s,
-            code: 7,
-        }
+        *book = Book::new();
+        *entries = [0; ALL_ENTRIES];
+        *self = started(true, terms_of(given, grid));
+        Ok(())
     }
 }

@@ -1,69 +1,60 @@
 // The call submit.
 ghost use Rattle.std.specs.Prelude.{◌≡◌};
 ghost use Rattle.book.specs.Book.{Book};
-ghost use Rattle.session.specs.Market.{market_of, answered_of};
+ghost use Rattle.entry.specs.Refusals.{code_of};
+ghost use Rattle.session.specs.Market.{market_of, called};
 ghost use Rattle.session.specs.Submit.{submit_refusal, submit_of};
 ghost use Rattle.session.specs.Sound.{LanesSound, Sound};
 
-use crate::{Answered, Session};
+use crate::Session;
+use entry::refusal::Refusal;
 use lanes::Entries;
 use lanes::bulk::{some_malformed, too_many, well_counted};
 use lanes::ring::{joined, put_all};
 use units::TENANTS;
 
-// The number by which a submit is refused, or 0.
-fn refusal(s: Session, tenant: u32, count: u32, numbers: &[u32]) -> u32
-    ensures { result ≡ submit_refusal s tenant count numbers.now }
-{
-    let accepted = s.accepted;
-    let lens = s.lanes.lens;
-    if accepted {
+impl Session {
+    // Whether a submit is taken, or why it is refused.
+    fn takes_bulk(&self, tenant: u32, count: u32, numbers: &[u32]) -> Result<(), Refusal>
+        ensures { code_of result ≡ submit_refusal self.now tenant count numbers.now }
+    {
+        if !self.accepted {
+            return Err(Refusal::NothingSet);
+        }
         let t = tenant as usize;
         if TENANTS <= t {
-            return 1;
+            return Err(Refusal::NoSuchTenant);
         }
-        if well_counted(count, numbers) {
-            if some_malformed(count, numbers) {
-                return 2;
-            }
-            if too_many(lens[t], count) { 4 } else { 0 }
-        } else {
-            3
+        if !well_counted(count, numbers) {
+            return Err(Refusal::Miscounted);
         }
-    } else {
-        21
+        if some_malformed(count, numbers) {
+            return Err(Refusal::Malformed);
+        }
+        if too_many(self.lanes.lanes[t].len, count) {
+            return Err(Refusal::LaneFull);
+        }
+        Ok(())
     }
-}
 
-// A bulk joins the tenant's lane whole, or is refused. The book is not lent; of a sound market submit asks just the
-// part that does not speak of it, the lanes (`lanes-sound`).
-pub fn submit(
-    s: Session,
-    tenant: u32,
-    count: u32,
-    numbers: &[u32],
-    entries: &mut Entries,
-) -> Answered
-    requires { LanesSound s entries.old }
-    ensures exact { (b : Book) → answered_of result b entries.new
-        ≡ submit_of (market_of s b entries.old) tenant count numbers.now }
-    ensures sound { (b : Book) → Sound (market_of s b entries.old) → Sound (market_of result.session b entries.new) }
-{
-    let code = refusal(s, tenant, count, numbers);
-    if 0 < code {
-        return Answered {
-            session: s,
-            code: code,
-        };
-    }
-    let t = tenant as usize;
-    let lanes = s.lanes;
-    put_all(lanes, entries, t, numbers, count as usize);
-    let more = joined(lanes, t, count);
-    let mut after = s;
-    after.lanes = more;
-    Answered {
-        session: after,
-        code: 0,
+    // A bulk joins the tenant's lane whole, or is refused. The book is not lent; of a sound market submit asks just the
+    // part that does not speak of it, the lanes (`lanes-sound`).
+    pub fn submit(
+        &mut self,
+        tenant: u32,
+        count: u32,
+        numbers: &[u32],
+        entries: &mut Entries,
+    ) -> Result<(), Refusal>
+        requires { LanesSound self.old entries.old }
+        ensures exact { (b : Book) → called self.new result b entries.new
+            ≡ submit_of (market_of self.old b entries.old) tenant count numbers.now }
+        ensures sound { (b : Book) → Sound (market_of self.old b entries.old) → Sound (market_of self.new b entries.new) }
+    {
+        self.takes_bulk(tenant, count, numbers)?;
+        let t = tenant as usize;
+        put_all(self.lanes, entries, t, numbers, count as usize);
+        self.lanes = joined(self.lanes, t, count);
+        Ok(())
     }
 }

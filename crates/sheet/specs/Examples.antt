@@ -5,9 +5,8 @@ use Rattle.units.specs.Tests.{◌and◌, ◌or◌, is_not, pick}
 use Rattle.units.specs.Decimal.{spelled, decimal, read_on}
 use Rattle.entry.specs.Numbers.{from1to}
 use Rattle.sheet.specs.declared.Order.{Order}
-use Rattle.sheet.specs.declared.line.LineRead.TheVariants.{Right, Wrong}
 use Rattle.sheet.specs.Bytes.{up_to, behind, is_digit, all_digits, same}
-use Rattle.sheet.specs.Line.{rest_at, field_at, is_tenant, is_side, is_size, is_kind, is_dollars, is_price, is_life, wrong_field, fault_of, side_of, kind_of, price_of, life_of, order_of, line_of}
+use Rattle.sheet.specs.Line.{Right, Wrong, rest_at, field_at, is_tenant, is_side, is_size, is_kind, is_dollars, is_price, is_life, wrong_field, fault_of, side_of, kind_of, price_of, life_of, order_of, line_of}
 use Rattle.sheet.specs.Sheet.{ended, refused, nothing_but, ending_at, told, told_of}
 use Rattle.sheet.specs.Spelling.{sheet_of}
 

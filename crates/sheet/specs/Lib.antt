@@ -3,6 +3,8 @@ pub mod Bytes
 pub mod Line
 pub mod Sheet
 pub mod Submits
+pub mod Stepped
+pub mod Finished
 pub mod Reading
 pub mod Parts
 pub mod Words

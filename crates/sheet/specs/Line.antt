@@ -1,14 +1,43 @@
 -- A line of a sheet: its six fields, which are wrong, and the order that it says.
-use Rattle.std.specs.Prelude.{Bool, List, [], ◌∷◌, ℕ, zero, suc, ◌+◌, ◌*◌, ◌%◌, eqb, length}
+use Rattle.std.specs.Prelude.{Bool, List, [], ◌∷◌, ℕ, zero, suc, ◌+◌, ◌*◌, ◌%◌, eqb, length, Option, Some, None, Result, Ok, Err}
 use Rattle.units.specs.Units.{cents, contracts}
 use Rattle.units.specs.Tests.{◌and◌, ◌or◌, is_not, pick}
 use Rattle.units.specs.Cases.{Case, ◌when◌, first_of}
 use Rattle.units.specs.Decimal.{value_of}
 use Rattle.entry.specs.Numbers.{from1to}
 use Rattle.sheet.specs.declared.Order.{Order}
-use Rattle.sheet.specs.declared.line.LineRead.{LineRead}
-use Rattle.sheet.specs.declared.line.LineRead.TheVariants.{Right, Wrong}
+use Rattle.sheet.specs.declared.Refusal.{Refusal}
+use Rattle.sheet.specs.declared.Refusal.TheVariants as refusal
+use Rattle.sheet.specs.declared.line.Field.{Field}
+use Rattle.sheet.specs.declared.line.Field.TheVariants as field
 use Rattle.sheet.specs.Bytes.{up_to, behind, all_digits, same}
+
+-- what a line says: an order, or the number by which it is refused
+pub data LineRead : Type 0 where
+  Right : Order → LineRead
+  Wrong : ℕ → LineRead
+
+-- 42 over 64 bytes without a newline; 43 a wrong or missing word; 44 a wrong or missing number, price or dash; 45 a
+-- last line without its newline
+abbrev pub refusal_number : Refusal → ℕ
+refusal_number refusal.TooLong = 42
+refusal_number refusal.WrongWord = 43
+refusal_number refusal.WrongNumber = 44
+refusal_number refusal.Unended = 45
+
+abbrev pub read_of : Result Order Refusal → LineRead
+read_of (Ok o) = Right o
+read_of (Err why) = Wrong (refusal_number why)
+
+-- the fields, counted from 1, and 0 for none
+abbrev pub field_number : Option Field → ℕ
+field_number None = 0
+field_number (Some field.Tenant) = 1
+field_number (Some field.Side) = 2
+field_number (Some field.Size) = 3
+field_number (Some field.Kind) = 4
+field_number (Some field.Price) = 5
+field_number (Some field.Life) = 6
 
 -- Fields end at the first five spaces: what stands behind the first i of them
 abbrev pub space : ℕ

@@ -3,10 +3,10 @@
 use Rattle.std.specs.Prelude.{◌≡◌, List, [], ◌∷◌, ℕ, drop}
 use Rattle.sheet.specs.declared.Order.{Order}
 use Rattle.sheet.specs.declared.Place.{Place}
-use Rattle.sheet.specs.declared.Stepped.{Stepped}
-use Rattle.sheet.specs.declared.Stepped.TheVariants as step
-use Rattle.sheet.specs.declared.Finished.{Finished}
-use Rattle.sheet.specs.declared.Finished.TheVariants as finish
+use Rattle.sheet.specs.Stepped.{Stepped}
+use Rattle.sheet.specs.Stepped as step
+use Rattle.sheet.specs.Finished.{Finished}
+use Rattle.sheet.specs.Finished as finish
 use Rattle.sheet.specs.Sheet.{ended, refused, Told, nothing_but, ◌before◌}
 use Rattle.sheet.specs.Reading.{line_start, begun_of, step_of, held_after, finish_of}
 

@@ -9,14 +9,12 @@ use Rattle.units.specs.Tests.{pick, picked, picked_of_both}
 use Rattle.units.specs.Places.{sets_behind}
 use Rattle.sheet.specs.declared.Order.{Order}
 use Rattle.sheet.specs.declared.Place.{Place}
-use Rattle.sheet.specs.declared.Stepped.{Stepped}
-use Rattle.sheet.specs.declared.Stepped.TheVariants as step
-use Rattle.sheet.specs.declared.Finished.{Finished}
-use Rattle.sheet.specs.declared.Finished.TheVariants as finish
-use Rattle.sheet.specs.declared.line.LineRead.{LineRead}
-use Rattle.sheet.specs.declared.line.LineRead.TheVariants.{Right, Wrong}
+use Rattle.sheet.specs.Stepped.{Stepped}
+use Rattle.sheet.specs.Stepped as step
+use Rattle.sheet.specs.Finished.{Finished}
+use Rattle.sheet.specs.Finished as finish
 use Rattle.sheet.specs.Bytes.{up_to, behind}
-use Rattle.sheet.specs.Line.{wrong_field, fault_of, line_of}
+use Rattle.sheet.specs.Line.{LineRead, Right, Wrong, wrong_field, fault_of, line_of}
 use Rattle.sheet.specs.Sheet.{newline, line_most, too_long, unended, ended, refused, Told, nothing_but, ◌before◌, by_line, ending_at, told, told_of}
 use Rattle.sheet.specs.Reading.{line_start, line_step, line_here, begun_of, step_of, held_after, finish_of}
 use Rattle.sheet.specs.Parts.{Reader, steps, kept, at_start, finished, Feeds, goes_on, orders, refuses, finishes}

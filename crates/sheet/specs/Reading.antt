@@ -1,17 +1,28 @@
 -- A sheet read in parts: what one step makes of the bytes of a part, and how a sheet finishes.
-use Rattle.std.specs.Prelude.{List, ◌++◌, ℕ, ◌+◌, ◌-◌, ◌≤◌, ◌<◌, ltb, eqb, length, take}
+use Rattle.std.specs.Prelude.{List, ◌++◌, ℕ, ◌+◌, ◌-◌, ◌≤◌, ◌<◌, ltb, eqb, length, take, Result, Ok, Err}
 use Rattle.std.proofs.lemmas.List.Edits.{sets}
 use Rattle.units.specs.Tests.{pick}
 use Rattle.sheet.specs.declared.Place.{Place}
-use Rattle.sheet.specs.declared.Stepped.{Stepped}
-use Rattle.sheet.specs.declared.Stepped.TheVariants as step
-use Rattle.sheet.specs.declared.Finished.{Finished}
-use Rattle.sheet.specs.declared.Finished.TheVariants as finish
-use Rattle.sheet.specs.declared.line.LineRead.{LineRead}
-use Rattle.sheet.specs.declared.line.LineRead.TheVariants.{Right, Wrong}
+use Rattle.sheet.specs.declared.Refused.{Refused}
+use Rattle.sheet.specs.declared.Given.{Given}
+use Rattle.sheet.specs.declared.Given.TheVariants as given
+use Rattle.sheet.specs.Stepped.{Stepped}
+use Rattle.sheet.specs.Stepped as step
+use Rattle.sheet.specs.Finished.{Finished}
+use Rattle.sheet.specs.Finished as finish
 use Rattle.sheet.specs.Bytes.{up_to}
-use Rattle.sheet.specs.Line.{line_of}
+use Rattle.sheet.specs.Line.{LineRead, Right, Wrong, refusal_number, line_of}
 use Rattle.sheet.specs.Sheet.{newline, line_most, too_long, unended}
+
+-- what a step and the last of them gave, by numbers
+abbrev pub stepped_of : Result Given Refused → Stepped
+stepped_of (Ok (given.More p)) = step.More p
+stepped_of (Ok (given.Order o end p)) = step.Order o end p
+stepped_of (Err r) = step.Refused (refusal_number r.why) r.line
+
+abbrev pub finished_of : Result (Unit {0}) Refused → Finished
+finished_of (Ok _) = finish.Ended
+finished_of (Err r) = finish.Refused (refusal_number r.why) r.line
 
 -- the start of a line
 abbrev pub line_start : ℕ → Place

@@ -1,5 +1,5 @@
 -- The loop of a step: the bytes passed are no newlines, and stand in the memory behind those of the line that had come.
-use Rattle.std.specs.Prelude.{◌≡◌, ℕ, suc, ◌+◌, ◌-◌, ◌≤◌, ◌<◌, length, drop, set}
+use Rattle.std.specs.Prelude.{◌≡◌, refl, Result, Ok, Err, ℕ, suc, ◌+◌, ◌-◌, ◌≤◌, ◌<◌, length, drop, set}
 use Rattle.std.proofs.Math.Path.{sym, ap}
 use Rattle.std.proofs.Common.{◌∙◌, arith, lt-ltb, le-ltb, eq-eqb, ne_eqb, length-append, length-drop, length-take-le, take-take, take-suc, get_or-drop}
 use mathlib.Core.List.{List, [], ◌∷◌, ◌++◌}
@@ -9,13 +9,18 @@ use Rattle.std.proofs.lemmas.List.Edits.{sets}
 use Rattle.units.specs.Tests.{pick_yes, pick_no}
 use Rattle.units.specs.Places.{at, sets_append, sets_behind}
 use Rattle.sheet.specs.declared.Place.{Place}
-use Rattle.sheet.specs.declared.Stepped.{Stepped}
-use Rattle.sheet.specs.declared.Stepped.TheVariants as step
-use Rattle.sheet.specs.declared.Finished.TheVariants as finish
+use Rattle.sheet.specs.declared.Refusal.{Refusal}
+use Rattle.sheet.specs.declared.Refusal.TheVariants.{TooLong, WrongWord, WrongNumber, Unended}
+use Rattle.sheet.specs.declared.Refused.{Refused}
+use Rattle.sheet.specs.declared.Given.{Given}
+use Rattle.sheet.specs.declared.Given.TheVariants as given
+use Rattle.sheet.specs.Stepped.{Stepped}
+use Rattle.sheet.specs.Stepped as step
+use Rattle.sheet.specs.Finished as finish
 use Rattle.sheet.specs.Bytes.{up_to}
-use Rattle.sheet.specs.Line.{line_of}
+use Rattle.sheet.specs.Line.{refusal_number, line_of}
 use Rattle.sheet.specs.Sheet.{newline, line_most, too_long, unended}
-use Rattle.sheet.specs.Reading.{line_step, line_here, begun_of, step_of, held_after, finish_of, CanStep}
+use Rattle.sheet.specs.Reading.{stepped_of, finished_of, line_step, line_here, begun_of, step_of, held_after, finish_of, CanStep}
 use Rattle.sheet.specs.BytesLaws.{Sought, seek_starts, seek_finds, seek_goes_on, seek_ends, up_front}
 
 -- the front of the bytes before a mark is that of all bytes
@@ -161,3 +166,46 @@ finish_ended p e = sym (pick_yes _ _ (eq-eqb p.held 0 e))
 pub finish_refused : (p : Place) → (p.held ≡ 0 → ⊥) → finish.Refused unended p.line ≡ finish_of p
 unfolding finish_of
 finish_refused p n = sym (pick_no _ _ (ne_eqb p.held 0 n))
+
+-- each refusal has a number of its own, so answers that are told alike are the same
+pub numbers_differ : (a b : Refusal) → refusal_number a ≡ refusal_number b → a ≡ b
+numbers_differ TooLong TooLong e = refl
+numbers_differ TooLong WrongWord e = absurd (omega arith)
+numbers_differ TooLong WrongNumber e = absurd (omega arith)
+numbers_differ TooLong Unended e = absurd (omega arith)
+numbers_differ WrongWord TooLong e = absurd (omega arith)
+numbers_differ WrongWord WrongWord e = refl
+numbers_differ WrongWord WrongNumber e = absurd (omega arith)
+numbers_differ WrongWord Unended e = absurd (omega arith)
+numbers_differ WrongNumber TooLong e = absurd (omega arith)
+numbers_differ WrongNumber WrongWord e = absurd (omega arith)
+numbers_differ WrongNumber WrongNumber e = refl
+numbers_differ WrongNumber Unended e = absurd (omega arith)
+numbers_differ Unended TooLong e = absurd (omega arith)
+numbers_differ Unended WrongWord e = absurd (omega arith)
+numbers_differ Unended WrongNumber e = absurd (omega arith)
+numbers_differ Unended Unended e = refl
+
+refused_differ : {T : Type 0} (r s : Refused) → refusal_number r.why ≡ refusal_number s.why → r.line ≡ s.line → ◌≡◌ {A = Result T Refused} (Err r) (Err s)
+refused_differ {T} r s why line =
+    ap (λ (x : Refusal). told (record { why = x; line = r.line })) (numbers_differ r.why s.why why) ∙ ap (λ (n : ℕ). told (record { why = s.why; line = n })) line
+  where
+    told : Refused → Result T Refused
+    told r = Err r
+
+pub steps_differ : (x y : Result Given Refused) → stepped_of x ≡ stepped_of y → x ≡ y
+steps_differ (Ok (given.More p)) (Ok (given.More q)) e = cc
+steps_differ (Ok (given.More p)) (Ok (given.Order o end q)) e = let z : ◌≡◌ {A = ℕ} 0 1 = cc in absurd (omega arith)
+steps_differ (Ok (given.More p)) (Err r) e = let z : ◌≡◌ {A = ℕ} 0 1 = cc in absurd (omega arith)
+steps_differ (Ok (given.Order o end p)) (Ok (given.More q)) e = let z : ◌≡◌ {A = ℕ} 0 1 = cc in absurd (omega arith)
+steps_differ (Ok (given.Order o end p)) (Ok (given.Order o' end' q)) e = cc
+steps_differ (Ok (given.Order o end p)) (Err r) e = let z : ◌≡◌ {A = ℕ} 0 1 = cc in absurd (omega arith)
+steps_differ (Err r) (Ok (given.More q)) e = let z : ◌≡◌ {A = ℕ} 0 1 = cc in absurd (omega arith)
+steps_differ (Err r) (Ok (given.Order o end q)) e = let z : ◌≡◌ {A = ℕ} 0 1 = cc in absurd (omega arith)
+steps_differ (Err r) (Err s) e = refused_differ r s (cc) (cc)
+
+pub finishes_differ : (x y : Result (Unit {0}) Refused) → finished_of x ≡ finished_of y → x ≡ y
+finishes_differ (Ok _) (Ok _) e = refl
+finishes_differ (Ok _) (Err r) e = let z : ◌≡◌ {A = ℕ} 0 1 = cc in absurd (omega arith)
+finishes_differ (Err r) (Ok _) e = let z : ◌≡◌ {A = ℕ} 0 1 = cc in absurd (omega arith)
+finishes_differ (Err r) (Err s) e = refused_differ r s (cc) (cc)

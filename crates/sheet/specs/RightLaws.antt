@@ -9,9 +9,8 @@ use Rattle.units.specs.Cases.{Case, first_of}
 use Rattle.units.specs.CaseLaws.{case_at, none, none_before}
 use Rattle.entry.specs.Numbers.{from1to}
 use Rattle.entry.specs.Words.{range_says}
-use Rattle.sheet.specs.declared.line.LineRead.TheVariants.{Right, Wrong}
 use Rattle.sheet.specs.Bytes.{up_to, behind, is_digit, all_digits, same}
-use Rattle.sheet.specs.Line.{point, tenant_field, side_field, size_field, kind_field, price_field, life_field, buy_word, sell_word, limit_word, market_word, day_word, now_word, dash, is_tenant, is_side, is_size, is_kind, is_dollars, is_price, is_life, wrong_fields, wrong_field, fault_of, order_of, line_of}
+use Rattle.sheet.specs.Line.{Right, Wrong, point, tenant_field, side_field, size_field, kind_field, price_field, life_field, buy_word, sell_word, limit_word, market_word, day_word, now_word, dash, is_tenant, is_side, is_size, is_kind, is_dollars, is_price, is_life, wrong_fields, wrong_field, fault_of, order_of, line_of}
 use Rattle.sheet.specs.Words.{Without, FieldsOf, Digits, Number, Price, RightField, FirstWrong, IsWord, IsNumber}
 use Rattle.sheet.specs.BytesLaws.{digit_says}
 use Rattle.sheet.specs.LineLaws.{wrong_by}

@@ -2,9 +2,7 @@
 use Rattle.std.specs.Prelude.{List, [], ◌∷◌, ◌++◌, ℕ, ◌+◌, ltb, eqb, length}
 use Rattle.units.specs.Tests.{pick}
 use Rattle.sheet.specs.declared.Order.{Order}
-use Rattle.sheet.specs.declared.line.LineRead.{LineRead}
-use Rattle.sheet.specs.declared.line.LineRead.TheVariants.{Right, Wrong}
-use Rattle.sheet.specs.Line.{line_of}
+use Rattle.sheet.specs.Line.{LineRead, Right, Wrong, line_of}
 
 -- each line is ended by a newline, and has at most so many bytes before it
 abbrev pub newline : ℕ

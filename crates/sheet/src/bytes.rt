@@ -1,26 +1,13 @@
 // Bytes of a line: those before and behind the first of a kind, digits and the number that they spell, and words.
 ghost use Rattle.std.specs.Prelude.{◌≡◌, true, ◌≤◌, length};
 ghost use Rattle.units.specs.Decimal.{value_of};
-ghost use Rattle.sheet.specs.Bytes.{up_to, behind, is_digit, all_digits, same};
-
-use units::words::both;
-
-const ZERO: u8 = 48;
-
-const NINE: u8 = 57;
+ghost use Rattle.sheet.specs.Bytes.{up_to, behind, all_digits, same};
 
 // How many bytes stand before the first mark: all of them where there is none.
 pub(crate) fn until(s: &[u8], mark: u8) -> usize
     ensures { result ≡ length (up_to mark s.now) }
 {
-    let mut i: usize = 0;
-    while i < s.len() {
-        if s[i] == mark {
-            return i;
-        }
-        i += 1;
-    }
-    i
+    s.iter().position(|b| *b == mark).unwrap_or(s.len())
 }
 
 // The bytes before the first mark.
@@ -44,25 +31,11 @@ pub(crate) fn behind(s: &[u8], mark: u8) -> &[u8]
     }
 }
 
-fn is_digit(b: u8) -> bool
-    ensures { result ≡ is_digit b }
-{
-    both(ZERO <= b, b <= NINE)
-}
-
 // Whether every byte is a digit.
 pub(crate) fn all_digits(s: &[u8]) -> bool
     ensures { result ≡ all_digits s.now }
 {
-    let mut i: usize = 0;
-    while i < s.len() {
-        if is_digit(s[i]) {
-            i += 1;
-        } else {
-            return false;
-        }
-    }
-    true
+    s.iter().all(|b| b.is_ascii_digit())
 }
 
 // The number that digits spell; nine of them fit.
@@ -71,11 +44,9 @@ pub(crate) fn value(s: &[u8]) -> u32
     requires s_len_bound { length s.now ≤ 9 }
     ensures { result ≡ value_of s.now }
 {
-    let mut v: u32 = 0;
-    let mut i: usize = 0;
-    while i < s.len() {
-        v = 10 * v + (s[i] - ZERO) as u32;
-        i += 1;
+    let mut v = 0;
+    for b in s {
+        v = 10 * v + u32::from(*b - b'0');
     }
     v
 }
@@ -84,15 +55,5 @@ pub(crate) fn value(s: &[u8]) -> u32
 pub(crate) fn is_word(s: &[u8], word: &[u8]) -> bool
     ensures { result ≡ same s.now word.now }
 {
-    if s.len() != word.len() {
-        return false;
-    }
-    let mut i: usize = 0;
-    while i < word.len() {
-        if s[i] != word[i] {
-            return false;
-        }
-        i += 1;
-    }
-    true
+    s == word
 }

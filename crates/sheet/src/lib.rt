@@ -4,11 +4,11 @@
 #![tactic(auto)]
 
 ghost use Rattle.std.specs.Prelude.{◌≡◌, ◌+◌, ◌≤◌, ◌<◌, length, take, drop};
-ghost use Rattle.sheet.specs.Line.{line_of};
-ghost use Rattle.sheet.specs.Reading.{lines, line_start, line_step, begun_of, step_of, held_after, finish_of, CanStep};
+ghost use Rattle.sheet.specs.Line.{refusal_number, line_of};
+ghost use Rattle.sheet.specs.Reading.{lines, line_start, line_step, stepped_of, finished_of, begun_of, step_of, held_after, finish_of, CanStep};
 
 use entry::Entry;
-use line::{LineRead, read_line};
+use line::read_line;
 
 mod bytes;
 mod line;
@@ -16,19 +16,38 @@ mod line;
 // The most bytes of a line before its newline.
 pub const LINE_MOST: usize = 64;
 
-// Over 64 bytes without a newline.
-pub const TOO_LONG: u32 = 42;
+const NEWLINE: u8 = b'\n';
 
-// A wrong or missing word.
-pub const WRONG_WORD: u32 = 43;
+// Why a sheet is refused: over 64 bytes without a newline; a wrong or missing word; a wrong or missing number, price or
+// dash; or a last line without its newline.
+#[derive(Clone, Copy, PartialEq, Eq)]
+pub enum Refusal {
+    TooLong,
+    WrongWord,
+    WrongNumber,
+    Unended,
+}
 
-// A wrong or missing number, price or dash.
-pub const WRONG_NUMBER: u32 = 44;
+impl Refusal {
+    // The number that is told: 42, 43, 44 or 45.
+    pub fn number(self) -> u32
+        ensures { result ≡ refusal_number self }
+    {
+        match self {
+            Refusal::TooLong => 42,
+            Refusal::WrongWord => 43,
+            Refusal::WrongNumber => 44,
+            Refusal::Unended => 45,
+        }
+    }
+}
 
-// A last line without its newline.
-pub const UNENDED: u32 = 45;
-
-const NEWLINE: u8 = 10;
+// Why a sheet is refused, and at which line.
+#[derive(Clone, Copy, PartialEq, Eq)]
+pub struct Refused {
+    pub why: Refusal,
+    pub line: u64,
+}
 
 // An order: its tenant, and the entry that its submit sends.
 #[derive(Clone, Copy)]
@@ -55,82 +74,67 @@ impl Place {
 }
 
 // What a step gives: the place where the next part goes on, all bytes of this one being used; or an order, with the
-// place of the next byte in the part and that in the sheet; or the number by which the sheet is refused, with its line.
+// place of the next byte in the part and that in the sheet.
 #[derive(Clone, Copy)]
-pub enum Stepped {
+pub enum Given {
     More(Place),
     Order(Order, usize, Place),
-    Refused(u32, u64),
 }
 
-// How a sheet finishes: behind its last line, or refused by a number at a line.
-#[derive(Clone, Copy)]
-pub enum Finished {
-    Ended,
-    Refused(u32, u64),
-}
-
-// What comes of a line that its newline has ended, the next byte standing at a place.
-fn line_step(read: LineRead, line: u64, end: usize) -> Stepped
-    requires { line + 1 < lines }
-    ensures { result ≡ line_step read line end }
+// Reads the line whose bytes stand in front of the memory lent. A newline has ended it, and the next byte stands at a
+// place.
+fn end_line(held: &[u8], count: usize, line: u64, end: usize) -> Result<Given, Refused>
+    requires count_in_bounds { count ≤ length held.now }
+    requires line_bound { line + 1 < lines }
+    ensures { stepped_of result ≡ line_step (line_of (take count held.now)) line end }
 {
-    match read {
-        LineRead::Right(order) => Stepped::Order(
+    match read_line(&held[..count]) {
+        Ok(order) => Ok(Given::Order(
             order,
             end,
             Place {
                 line: line + 1,
                 held: 0,
             },
-        ),
-        LineRead::Wrong(code) => Stepped::Refused(code, line),
+        )),
+        Err(why) => Err(Refused { why, line }),
     }
-}
-
-// Reads the line whose bytes stand in front of the memory lent.
-fn end_line(held: &[u8], count: usize, line: u64, end: usize) -> Stepped
-    requires count_in_bounds { count ≤ length held.now }
-    requires line_bound { line + 1 < lines }
-    ensures { result ≡ line_step (line_of (take count held.now)) line end }
-{
-    line_step(read_line(&held[..count]), line, end)
 }
 
 // Reads a part of a sheet from a place on, up to the end of the line at hand: an order where a newline ends it, a
 // refusal, or the end of the part. The bytes of a line that have come are kept in the memory lent.
-pub fn step(part: &[u8], from: usize, place: Place, held: &mut [u8]) -> Stepped
+pub fn step(part: &[u8], from: usize, place: Place, held: &mut [u8]) -> Result<Given, Refused>
     requires { CanStep place held.old }
-    ensures answer { result ≡ step_of place.line (begun_of place held.old) (drop from part.now) from }
+    ensures answer { stepped_of result ≡ step_of place.line (begun_of place held.old) (drop from part.now) from }
     ensures kept { held.new ≡ held_after place held.old (drop from part.now) }
 {
+    let line = place.line;
     let mut count = place.held;
-    let mut i = from;
-    while i < part.len() {
+    for i in from..part.len() {
         let b = part[i];
         if b == NEWLINE {
-            return end_line(held, count, place.line, i + 1);
+            return end_line(held, count, line, i + 1);
         }
         if count == LINE_MOST {
-            return Stepped::Refused(TOO_LONG, place.line);
+            let why = Refusal::TooLong;
+            return Err(Refused { why, line });
         }
         held[count] = b;
         count += 1;
-        i += 1;
     }
-    Stepped::More(Place {
-        line: place.line,
-        held: count,
-    })
+    Ok(Given::More(Place { line, held: count }))
 }
 
-// What a sheet comes to where no part is left.
-pub fn finish(place: Place) -> Finished
-    ensures { result ≡ finish_of place }
+// Whether a sheet ends well where no part is left.
+pub fn finish(place: Place) -> Result<(), Refused>
+    ensures { finished_of result ≡ finish_of place }
 {
     if place.held == 0 {
-        Finished::Ended
+        Ok(())
     } else {
-        Finished::Refused(UNENDED, place.line)
+        Err(Refused {
+            why: Refusal::Unended,
+            line: place.line,
+        })
     }
 }

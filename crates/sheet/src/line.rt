@@ -1,30 +1,19 @@
 // One line of a sheet: six fields with one space between.
-ghost use Rattle.std.specs.Prelude.{◌≡◌, true};
+ghost use Rattle.std.specs.Prelude.{◌≡◌, true, Some, length};
+ghost use Rattle.units.specs.Tests.{◌and◌};
 ghost use Rattle.units.specs.Cases.{first_of};
-ghost use Rattle.sheet.specs.Line.{rest_at, field_at, life_field, is_tenant, is_side, is_size, is_kind, is_dollars, is_price, is_life, wrong_terms, wrong_field, fault_of, side_of, kind_of, price_of, life_of, order_of, line_of};
+ghost use Rattle.entry.specs.Numbers.{from1to};
+ghost use Rattle.sheet.specs.Bytes.{all_digits};
+ghost use Rattle.sheet.specs.Line.{refusal_number, read_of, field_number, rest_at, field_at, life_field, is_tenant, is_side, is_size, is_kind, is_dollars, is_price, is_life, wrong_terms, wrong_field, fault_of, side_of, kind_of, price_of, life_of, order_of, line_of};
 
 use crate::bytes::{all_digits, before, behind, is_word, value};
-use crate::{Order, WRONG_NUMBER, WRONG_WORD};
+use crate::{Order, Refusal};
 use entry::{DAY, Entry, LIMIT, MARKET, NOW};
-use units::words::{both, either, first, is_not};
 use units::{Cents, Contracts};
 
-const SPACE: u8 = 32;
+const SPACE: u8 = b' ';
 
-const POINT: u8 = 46;
-
-// The fields of a line, counted from 1.
-const TENANT: u32 = 1;
-
-const SIDE: u32 = 2;
-
-const SIZE: u32 = 3;
-
-const KIND: u32 = 4;
-
-const PRICE: u32 = 5;
-
-const LIFE: u32 = 6;
+const POINT: u8 = b'.';
 
 // The digits of a size, of a price's dollars and of its cents.
 const MOST_SIZE_DIGITS: usize = 6;
@@ -37,11 +26,15 @@ const BUY: u32 = 1;
 
 const SELL: u32 = 2;
 
-// What a line says: an order, or the number by which it is refused.
-#[derive(Clone, Copy)]
-pub(crate) enum LineRead {
-    Right(Order),
-    Wrong(u32),
+// The fields of a line.
+#[derive(Clone, Copy, PartialEq, Eq)]
+enum Field {
+    Tenant,
+    Side,
+    Size,
+    Kind,
+    Price,
+    Life,
 }
 
 // What stands behind the first spaces of a line.
@@ -56,7 +49,7 @@ fn rest(line: &[u8], spaces: u32) -> &[u8]
 }
 
 // A field that ends at a space or with the line, counted from 0.
-fn field(line: &[u8], i: u32) -> &[u8]
+fn field_at(line: &[u8], i: u32) -> &[u8]
     ensures { result.now ≡ field_at i line.now }
 {
     before(rest(line, i), SPACE)
@@ -72,28 +65,32 @@ fn last_field(line: &[u8]) -> &[u8]
 fn is_tenant(f: &[u8]) -> bool
     ensures { result ≡ is_tenant f.now }
 {
-    both(f.len() == 1, all_digits(f))
+    f.len() == 1 && all_digits(f)
 }
 
 fn is_side(f: &[u8]) -> bool
     ensures { result ≡ is_side f.now }
 {
-    either(is_word(f, b"BUY"), is_word(f, b"SELL"))
+    is_word(f, b"BUY") || is_word(f, b"SELL")
+}
+
+// Digits, at least one and at most so many.
+fn is_number(f: &[u8], most: usize) -> bool
+    ensures { result ≡ (from1to most (length f.now) and all_digits f.now) }
+{
+    1 <= f.len() && f.len() <= most && all_digits(f)
 }
 
 fn is_size(f: &[u8]) -> bool
     ensures { result ≡ is_size f.now }
 {
-    both(
-        both(1 <= f.len(), f.len() <= MOST_SIZE_DIGITS),
-        all_digits(f),
-    )
+    is_number(f, MOST_SIZE_DIGITS)
 }
 
 fn is_kind(f: &[u8]) -> bool
     ensures { result ≡ is_kind f.now }
 {
-    either(is_word(f, b"LMT"), is_word(f, b"MKT"))
+    is_word(f, b"LMT") || is_word(f, b"MKT")
 }
 
 // Dollars, a point and two digits of cents.
@@ -102,13 +99,7 @@ fn is_dollars(f: &[u8]) -> bool
 {
     let dollars = before(f, POINT);
     let cents = behind(f, POINT);
-    both(
-        both(
-            both(1 <= dollars.len(), dollars.len() <= MOST_DOLLAR_DIGITS),
-            all_digits(dollars),
-        ),
-        both(cents.len() == CENT_DIGITS, all_digits(cents)),
-    )
+    is_number(dollars, MOST_DOLLAR_DIGITS) && cents.len() == CENT_DIGITS && all_digits(cents)
 }
 
 // A limit has a price, any other kind a dash.
@@ -125,54 +116,60 @@ fn is_price(kind: &[u8], f: &[u8]) -> bool
 fn is_life(f: &[u8]) -> bool
     ensures { result ≡ is_life f.now }
 {
-    either(is_word(f, b"DAY"), is_word(f, b"NOW"))
+    is_word(f, b"DAY") || is_word(f, b"NOW")
 }
 
-// The first wrong field among kind, price and life; 0 where there is none.
-fn wrong_terms(line: &[u8]) -> u32
-    ensures { result ≡ first_of 0 (wrong_terms line.now) }
+// The first wrong field among kind, price and life.
+fn wrong_terms(line: &[u8]) -> Option<Field>
+    ensures { field_number result ≡ first_of 0 (wrong_terms line.now) }
 {
-    let kind = field(line, 3);
-    let price = is_not(is_price(kind, field(line, 4)));
-    let life = is_not(is_life(last_field(line)));
-    first(
-        is_not(is_kind(kind)),
-        KIND,
-        first(price, PRICE, first(life, LIFE, 0)),
-    )
+    let kind = field_at(line, 3);
+    if !is_kind(kind) {
+        Some(Field::Kind)
+    } else if !is_price(kind, field_at(line, 4)) {
+        Some(Field::Price)
+    } else if !is_life(last_field(line)) {
+        Some(Field::Life)
+    } else {
+        None
+    }
 }
 
-// The first wrong field from the left, counted from 1; 0 where there is none.
-fn wrong_field(line: &[u8]) -> u32
-    ensures { result ≡ wrong_field line.now }
+// The first wrong field from the left.
+fn wrong_field(line: &[u8]) -> Option<Field>
+    ensures { field_number result ≡ wrong_field line.now }
 {
-    let tenant = is_not(is_tenant(field(line, 0)));
-    let side = is_not(is_side(field(line, 1)));
-    let size = is_not(is_size(field(line, 2)));
-    first(
-        tenant,
-        TENANT,
-        first(side, SIDE, first(size, SIZE, wrong_terms(line))),
-    )
+    if !is_tenant(field_at(line, 0)) {
+        Some(Field::Tenant)
+    } else if !is_side(field_at(line, 1)) {
+        Some(Field::Side)
+    } else if !is_size(field_at(line, 2)) {
+        Some(Field::Size)
+    } else {
+        wrong_terms(line)
+    }
 }
 
-// Numbers and words take turns.
-fn fault(field: u32) -> u32
-    ensures { result ≡ fault_of field }
+// What is wrong with a wrong field: numbers and words take turns.
+fn fault(field: Field) -> Refusal
+    ensures { refusal_number result ≡ fault_of (field_number (Some field)) }
 {
-    first(field % 2 == 0, WRONG_WORD, WRONG_NUMBER)
+    match field {
+        Field::Tenant | Field::Size | Field::Price => Refusal::WrongNumber,
+        Field::Side | Field::Kind | Field::Life => Refusal::WrongWord,
+    }
 }
 
 fn side_of(f: &[u8]) -> u32
     ensures { result ≡ side_of f.now }
 {
-    first(is_word(f, b"BUY"), BUY, SELL)
+    if is_word(f, b"BUY") { BUY } else { SELL }
 }
 
 fn kind_of(f: &[u8]) -> u32
     ensures { result ≡ kind_of f.now }
 {
-    first(is_word(f, b"LMT"), LIMIT, MARKET)
+    if is_word(f, b"LMT") { LIMIT } else { MARKET }
 }
 
 // Dollars and cents in cents; 0 where there is a dash.
@@ -190,7 +187,7 @@ fn price_of(kind: &[u8], f: &[u8]) -> u32
 fn life_of(f: &[u8]) -> u32
     ensures { result ≡ life_of f.now }
 {
-    first(is_word(f, b"DAY"), DAY, NOW)
+    if is_word(f, b"DAY") { DAY } else { NOW }
 }
 
 // The order that a line says whose fields are right.
@@ -198,28 +195,26 @@ fn order_of(line: &[u8]) -> Order
     requires { wrong_field line.now ≡ 0 }
     ensures { result ≡ order_of line.now }
 {
-    let kind = field(line, 3);
+    let kind = field_at(line, 3);
     Order {
-        tenant: value(field(line, 0)),
+        tenant: value(field_at(line, 0)),
         entry: Entry {
             kind: kind_of(kind),
-            side: side_of(field(line, 1)),
+            side: side_of(field_at(line, 1)),
             life: life_of(last_field(line)),
-            price: Cents(price_of(kind, field(line, 4))),
-            size: Contracts(value(field(line, 2))),
+            price: Cents(price_of(kind, field_at(line, 4))),
+            size: Contracts(value(field_at(line, 2))),
             number: 0,
         },
     }
 }
 
-// What a line says, without its newline.
-pub(crate) fn read_line(line: &[u8]) -> LineRead
-    ensures { result ≡ line_of line.now }
+// What a line says, without its newline: an order, or why it is refused.
+pub(crate) fn read_line(line: &[u8]) -> Result<Order, Refusal>
+    ensures { read_of result ≡ line_of line.now }
 {
-    let wrong = wrong_field(line);
-    if wrong == 0 {
-        LineRead::Right(order_of(line))
-    } else {
-        LineRead::Wrong(fault(wrong))
+    match wrong_field(line) {
+        None => Ok(order_of(line)),
+        Some(field) => Err(fault(field)),
     }
 }

@@ -2,14 +2,13 @@
 // both turns are printed.
 #![tactic(auto)]
 
-use book::Fill;
+use book::{Book, Fill};
 use entry::Settings;
-use fills::on_row::{TurnedRow, open_on_row, turn_on_row};
+use entry::refusal::Refusal;
+use fills::on_row::{OnRow, open_on_row, turn_on_row};
 use fills::turn_fills;
 use lanes::ALL_ENTRIES;
-use session::Session;
-use session::settings::settings;
-use session::submit::submit;
+use session::{Session, Taken};
 use std::io;
 use units::Cents;
 
@@ -44,62 +43,26 @@ fn show_fill(rt: &HostRuntime, f: Fill) -> io::Result<()> {
 }
 
 // The fills that the turn wrote.
-fn show(rt: &HostRuntime, done: TurnedRow) -> io::Result<()> {
-    let turned = done.turned;
-    let row = done.row;
-    let count = turn_fills(turned);
-    let mut i: usize = 0;
-    while i < 216 {
-        if i < count {
-            show_fill(rt, row[i])?;
-        }
-        i += 1;
+fn show(rt: &HostRuntime, done: &OnRow<Result<Taken, Refusal>>) -> io::Result<()> {
+    let count = turn_fills(done.returned);
+    for &f in done.row.iter().take(count) {
+        show_fill(rt, f)?;
     }
     Ok(())
 }
 
 fn main(rt: HostRuntime) -> io::Result<()> {
-    let mut sides = [0u32; 216];
-    let mut prices = [0u32; 216];
-    let mut sizes = [0u32; 216];
-    let mut owners = [0u32; 216];
-    let mut numbers = [0u32; 216];
+    let mut book = Book::new();
     let mut entries = [0u32; ALL_ENTRIES];
     let buy = [1u32, 1, 1, 100, 5, 0];
     let sell = [1u32, 2, 2, 100, 3, 0];
-    let set = settings(
-        Session::new(),
-        worked(),
-        &mut sides,
-        &mut prices,
-        &mut sizes,
-        &mut owners,
-        &mut numbers,
-        &mut entries,
-    );
-    let quiet = open_on_row(set.session, &sides, &prices, &mut sizes, &owners, &numbers);
-    let opened = quiet.opened;
-    let buys = submit(opened.session, 2, 1, &buy, &mut entries);
-    let sells = submit(buys.session, 7, 1, &sell, &mut entries);
-    let first = turn_on_row(
-        sells.session,
-        &mut sides,
-        &mut prices,
-        &mut sizes,
-        &mut owners,
-        &mut numbers,
-        &entries,
-    );
-    show(&rt, first)?;
-    let turned = first.turned;
-    let second = turn_on_row(
-        turned.session,
-        &mut sides,
-        &mut prices,
-        &mut sizes,
-        &mut owners,
-        &mut numbers,
-        &entries,
-    );
-    show(&rt, second)
+    let mut session = Session::new();
+    let _ = session.settings(worked(), &mut book, &mut entries);
+    let _ = open_on_row(&mut session, &mut book);
+    let _ = session.submit(2, 1, &buy, &mut entries);
+    let _ = session.submit(7, 1, &sell, &mut entries);
+    let first = turn_on_row(&mut session, &mut book, &entries);
+    show(&rt, &first)?;
+    let second = turn_on_row(&mut session, &mut book, &entries);
+    show(&rt, &second)
 }

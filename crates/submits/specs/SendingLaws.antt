@@ -1,6 +1,7 @@
 -- What one step of sending leaves, and steps behind one another.
-use Rattle.std.specs.Prelude.{◌≡◌, refl, ℕ, ◌+◌, ◌-◌, ◌≤◌, ◌<◌, length}
-use Rattle.std.proofs.Common.{sym, ◌∙◌}
+use Rattle.std.specs.Prelude.{◌≡◌, refl, true, false, Ok, Err, IsOk, is_err, ℕ, ◌+◌, ◌-◌, ◌≤◌, ◌<◌, length}
+use Prim.{tt}
+use Rattle.std.proofs.Common.{sym, ◌∙◌, true≢false}
 use Rattle.std.proofs.Math.Path.{ap}
 use mathlib.Core.List.{List, [], ◌∷◌, ◌++◌, append_assoc, append-nil}
 use native.Mathlib.Omega.{arith}
@@ -11,21 +12,22 @@ use Rattle.entry.specs.Numbers.{from1to}
 use Rattle.tape.specs.Leads.{encode_all}
 use Rattle.tape.specs.Depth.{most_bytes}
 use Rattle.tape.specs.Spelling.{spells_submit}
-use Rattle.writer.specs.declared.Written.{Written}
-use Rattle.writer.specs.declared.Written.TheVariants.{Used, Refused}
-use Rattle.writer.specs.Write.{write_refusal, written_of, buffer_after}
+use Rattle.writer.specs.Write.{Written, write_refusal, written_of, buffer_after}
 use Rattle.writer.specs.WriteLaws.{event_says, accepted, never_short, part_laid, used_says, refused_says}
 use Rattle.writer.specs.Tapes.{IsEvent, tape_of}
 use Rattle.window.specs.Refusal.{Lays}
 use Rattle.window.specs.RefusalLaws.{lays_long, lays_then}
 use Rattle.sheet.specs.declared.Order.{Order}
 use Rattle.sheet.specs.declared.Place.{Place}
-use Rattle.sheet.specs.declared.Stepped.TheVariants as step
+use Rattle.sheet.specs.declared.Refused.{Refused}
+use Rattle.sheet.specs.Line.{refusal_number}
+use Rattle.sheet.specs.Stepped as step
 use Rattle.sheet.specs.Sheet.{told}
 use Rattle.sheet.specs.Reading.{begun_of, CanStep}
 use Rattle.sheet.specs.Submits.{six_numbers, submit_of}
 use Rattle.sheet.specs.Parts.{Reader, steps, kept}
-use Rattle.sheet.specs.PartsLaws.{kept_long, more_line, more_good, more_left, order_line, order_onward, order_good, order_left, refused_left, refused_is}
+use Rattle.sheet.specs.PartsLaws.{kept_long, more_line, more_good, more_left, order_line, order_onward, order_good, order_left, refused_left}
+use Rattle.writer.specs.declared.Refusal.{Refusal}
 use Rattle.submits.specs.declared.Sent.{Sent}
 use Rattle.submits.specs.Sending.{sent_of, reader_of, CanSend, Sends, SendsLine, CanSendAll, SendsAll}
 
@@ -49,10 +51,10 @@ module _ (o : Order) (out : List ℕ) (at : ℕ) (room : at + most_bytes ≤ len
   taken : write_refusal (submit_of o) (length behind) ≡ 0
   taken = never_short (submit_of o) (length behind) (omega (arith, behind_long)) ((event_says (submit_of o)).1 (submit_event o))
 
-  pub put_fits : {n : ℕ} → r ≡ Used n → at + n ≤ length out
+  pub put_fits : {n : ℕ} → r ≡ Ok n → at + n ≤ length out
   put_fits e = omega (arith, (used_says (submit_of o) (length behind) is e).1, (accepted (submit_of o) (length behind) taken).1, behind_long)
 
-  pub put_lays : {n : ℕ} → r ≡ Used n → Lays out at (encode_all (submit_of o)) (at + n) (put_mid at (length out - at) out lent)
+  pub put_lays : {n : ℕ} → r ≡ Ok n → Lays out at (encode_all (submit_of o)) (at + n) (put_mid at (length out - at) out lent)
   unfolding buffer_after
   put_lays {n} e =
       let u = used_says (submit_of o) (length behind) is e in
@@ -61,8 +63,15 @@ module _ (o : Order) (out : List ℕ) (at : ℕ) (room : at + most_bytes ≤ len
         after = omega (arith, u.1);
       }
 
-  pub put_refused : {code : ℕ} → r ≡ Refused code → ⊥
+  pub put_refused : {why : Refusal} → r ≡ Err why → ⊥
   put_refused e = let u = refused_says (submit_of o) (length behind) is e in omega (arith, taken, u.0, u.1)
+
+  pub put_taken : IsOk r
+  put_taken = go r refl
+    where
+      go : (x : Written) → r ≡ x → IsOk x
+      go (Ok n) e = refl
+      go (Err why) e = absurd (put_refused e)
 
 -- nothing is written
 lays_none : (out : List ℕ) (at : ℕ) → Lays out at [] at out
@@ -87,7 +96,7 @@ module _ (bytes : List ℕ) (from : ℕ) (p : Place) (held out : List ℕ) (at :
 
     -- the line goes on with the next part
     pub sends_more : {next : Place} → steps here ≡ step.More next →
-        SendsLine bytes from p held out at (record { place = next; from = length bytes; at = at; code = 0 }) (kept here) out
+        SendsLine bytes from p held out at (record { place = next; from = length bytes; at = at; told = Ok (tt {0}) }) (kept here) out
     unfolding tape_of
     sends_more {next} e =
         let good = more_good here can.good e bytes in
@@ -96,7 +105,7 @@ module _ (bytes : List ℕ) (from : ℕ) (p : Place) (held out : List ℕ) (at :
             orders = [];
             laid = lays_none out at;
             goes_on = λ _ rest. more_left here can.good e rest ∙ ap (λ (l : List ℕ). told next.line (begun_of next (kept here)) (l ++ rest)) (sym (drop-length bytes));
-            stops = λ h. absurd (omega arith);
+            stops = λ h. absurd (true≢false (sym h));
             good = record { few = good.few; room = good.room; begun = omega arith };
             kept_long = long;
             onward = can.good.begun;
@@ -109,7 +118,7 @@ module _ (bytes : List ℕ) (from : ℕ) (p : Place) (held out : List ℕ) (at :
     -- a newline ends it, and its order is sent
     pub sends_order :
         {o : Order} {end after : ℕ} {next : Place} {lent : List ℕ} → steps here ≡ step.Order o end next → Lays out at (encode_all (submit_of o)) after lent →
-        SendsLine bytes from p held out at (record { place = next; from = end; at = after; code = 0 }) (kept here) lent
+        SendsLine bytes from p held out at (record { place = next; from = end; at = after; told = Ok (tt {0}) }) (kept here) lent
     unfolding tape_of
     sends_order {o} e l =
         let on = order_onward here can.good e in
@@ -118,7 +127,7 @@ module _ (bytes : List ℕ) (from : ℕ) (p : Place) (held out : List ℕ) (at :
             orders = o ∷ [];
             laid = rw (append-nil (encode_all (submit_of o))) l;
             goes_on = λ _ rest. order_left here can.good e rest;
-            stops = λ h. absurd (omega arith);
+            stops = λ h. absurd (true≢false (sym h));
             good = order_good here can.good e;
             kept_long = long;
             onward = omega (arith, on);
@@ -129,24 +138,23 @@ module _ (bytes : List ℕ) (from : ℕ) (p : Place) (held out : List ℕ) (at :
         }
 
     -- the sheet is refused
-    pub sends_refused : {code line : ℕ} → steps here ≡ step.Refused code line →
-        SendsLine bytes from p held out at (record { place = p; from = from; at = at; code = code }) (kept here) out
+    pub sends_refused : {r : Refused} → steps here ≡ step.Refused (refusal_number r.why) r.line →
+        SendsLine bytes from p held out at (record { place = p; from = from; at = at; told = Err r }) (kept here) out
     unfolding tape_of
-    sends_refused {code} e =
-        let is = refused_is here can.good e in
+    sends_refused e =
         record {
           sends = record {
             orders = [];
             laid = lays_none out at;
-            goes_on = λ none. absurd (omega (arith, is.0));
-            stops = λ _ rest. refused_left here can.good e rest ∙ rw is.1;
+            goes_on = λ none. absurd (true≢false none);
+            stops = λ _ rest. refused_left here can.good e rest;
             good = record { few = can.good.few; room = omega (arith, long, can.good.room); begun = can.good.begun };
             kept_long = long;
             onward = omega arith;
             few_lines = omega arith;
             fits = omega (arith, can.room);
           };
-          moves = λ none. absurd (omega (arith, is.0));
+          moves = λ none. absurd (true≢false none);
         }
 
 -- sending goes on behind sending
@@ -154,7 +162,7 @@ module _ {bytes : List ℕ} {from : ℕ} {p : Place} {held out : List ℕ} {at :
   pub sends_long : length lent ≡ length out
   sends_long = lays_long f.laid
 
-  pub sends_then : first.code ≡ 0 → {next : Sent} {kept' lent' : List ℕ} → Sends bytes first.from first.place kept lent first.at next kept' lent' →
+  pub sends_then : is_err first.told ≡ false → {next : Sent} {kept' lent' : List ℕ} → Sends bytes first.from first.place kept lent first.at next kept' lent' →
       Sends bytes from p held out at next kept' lent'
   sends_then none g = record {
     orders = f.orders ++ g.orders;
@@ -172,10 +180,10 @@ module _ {bytes : List ℕ} {from : ℕ} {p : Place} {held out : List ℕ} {at :
 pub record Sending (bytes : List ℕ) (from : ℕ) (p : Place) (held out : List ℕ) (at : ℕ) (sent : Sent) (kept lent : List ℕ) : Type 0 where
   pub can : CanSendAll bytes from p held out at
   pub sends : Sends bytes from p held out at sent kept lent
-  pub none : sent.code ≡ 0
+  pub none : is_err sent.told ≡ false
 
 module _ (bytes : List ℕ) (from : ℕ) (p : Place) (held out : List ℕ) (at : ℕ) where
-  pub sending_starts : CanSendAll bytes from p held out at → Sending bytes from p held out at (record { place = p; from = from; at = at; code = 0 }) held out
+  pub sending_starts : CanSendAll bytes from p held out at → Sending bytes from p held out at (record { place = p; from = from; at = at; told = Ok (tt {0}) }) held out
   unfolding tape_of
   sending_starts can = record {
     can = can;
@@ -183,7 +191,7 @@ module _ (bytes : List ℕ) (from : ℕ) (p : Place) (held out : List ℕ) (at :
       orders = [];
       laid = lays_none out at;
       goes_on = λ _ rest. refl;
-      stops = λ h. absurd (omega arith);
+      stops = λ h. absurd (true≢false (sym h));
       good = can.good;
       kept_long = refl;
       onward = omega arith;
@@ -214,14 +222,14 @@ module _ {bytes : List ℕ} {from : ℕ} {p : Place} {held out : List ℕ} {at :
     }
 
     module _ {next : Sent} {kept' lent' : List ℕ} (l : SendsLine bytes sent.from sent.place kept lent sent.at next kept' lent') where
-      pub sending_stops : 0 < next.code → SendsAll bytes from p held out at next kept' lent'
-      sending_stops stop = record { sends = sends_then g.sends g.none l.sends; all = λ none. absurd (omega arith) }
+      pub sending_stops : is_err next.told ≡ true → SendsAll bytes from p held out at next kept' lent'
+      sending_stops stop = record { sends = sends_then g.sends g.none l.sends; all = λ none. absurd (true≢false (sym stop ∙ none)) }
 
-      pub sending_goes_on : next.code ≤ 0 → Sending bytes from p held out at next kept' lent'
-      sending_goes_on on = record { can = g.can; sends = sends_then g.sends g.none l.sends; none = omega arith }
+      pub sending_goes_on : is_err next.told ≡ false → Sending bytes from p held out at next kept' lent'
+      sending_goes_on on = record { can = g.can; sends = sends_then g.sends g.none l.sends; none = on }
 
-      pub sending_less : next.code ≤ 0 → length bytes - next.from < length bytes - sent.from
-      sending_less on = omega (arith, l.moves (omega arith) h)
+      pub sending_less : is_err next.told ≡ false → length bytes - next.from < length bytes - sent.from
+      sending_less on = omega (arith, l.moves on h)
 
       pub sending_long : (length kept' ≡ length held) × (length lent' ≡ length out)
       sending_long = (l.sends.kept_long ∙ g.sends.kept_long, sends_long l.sends ∙ sends_long g.sends)

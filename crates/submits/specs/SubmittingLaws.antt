@@ -1,49 +1,40 @@
 -- The turns of the program's loop.
-use Rattle.std.specs.Prelude.{◌≡◌, refl, Bool, true, false, ℕ, ◌+◌, ◌*◌, ◌-◌, ◌≤◌, ◌<◌, length, take, drop, replicate}
-use Rattle.std.proofs.Common.{sym, ap, ◌∙◌, arith, ne_eqb, drop_of_length-le, length-take-le}
+use Rattle.std.specs.Prelude.{◌≡◌, refl, Bool, true, false, Result, Ok, Err, is_err, ℕ, ◌+◌, ◌*◌, ◌-◌, ◌≤◌, ◌<◌, length, take, drop, replicate}
+use Rattle.std.proofs.Common.{sym, ap, ◌∙◌, arith, drop_of_length-le, length-take-le}
 use mathlib.Core.List.{List, [], ◌∷◌, ◌++◌, append_assoc, append-nil, flatten}
 use Rattle.std.proofs.lemmas.List.{length-replicate}
-use Rattle.units.specs.Tests.{pick, pick_no}
 use Rattle.units.specs.Places.{sets_behind}
 use Rattle.tape.specs.Depth.{most_bytes}
 use Rattle.writer.specs.Tapes.{tape_of}
 use Rattle.window.specs.declared.Filled.{Filled}
 use Rattle.window.specs.Window.{window_long, Refilled}
 use Rattle.window.specs.WindowLaws.{read_behind}
-use Rattle.window.specs.Program.{going, Stopped, status_of, stops_status}
+use Rattle.window.specs.Program.{going, refused, Stopped, status_of, stops_status}
 use Rattle.sheet.specs.declared.Order.{Order}
 use Rattle.sheet.specs.declared.Place.{Place}
-use Rattle.sheet.specs.declared.Finished.{Finished}
-use Rattle.sheet.specs.declared.Finished.TheVariants as finish
-use Rattle.sheet.specs.Sheet.{line_most, ended, refused, nothing_but, all_before, told, told_of}
-use Rattle.sheet.specs.Reading.{line_start, begun_of, finish_of}
+use Rattle.sheet.specs.declared.Refused.{Refused}
+use Rattle.sheet.specs.Sheet.{line_most, nothing_but, all_before, told, told_of}
+use Rattle.sheet.specs.Reading.{finished_of, line_start, begun_of, finish_of}
 use Rattle.sheet.specs.Parts.{finished}
-use Rattle.sheet.specs.PartsLaws.{finish_told, finish_line}
+use Rattle.sheet.specs.PartsLaws.{finish_told}
 use Rattle.submits.specs.declared.Sent.{Sent}
-use Rattle.submits.specs.Sending.{sent_of, CanSendAll, SendsAll}
+use Rattle.submits.specs.Sending.{sent_of, ending_of, CanSendAll, SendsAll}
 use Rattle.submits.specs.SendingLaws.{sent_behind, sends_long}
-use Rattle.submits.specs.Submitting.{output_long, ending_of, code_in, last_code, CameTo, CameToStop, farthest, Submitting}
+use Rattle.submits.specs.Submitting.{output_long, CameTo, CameToStop, farthest, Submitting}
 
 flatten_behind : (read : List (List ℕ)) (part : List ℕ) → flatten (read ++ (part ∷ [])) ≡ flatten read ++ part
 unfolding flatten
 flatten_behind [] part = append-nil part
 flatten_behind (x ∷ read) part = ap (λ (l : List ℕ). x ++ l) (flatten_behind read part) ∙ sym (append_assoc x (flatten read) part)
 
--- how a sheet finishes, by its number
-refused_ending : (code line : ℕ) → 0 < code → ending_of code line ≡ refused code line
-refused_ending code line h = pick_no ended (refused code line) (ne_eqb code 0 (λ e. omega arith))
-
-finish_ending : (p : Place) → finished (finish_of p) ≡ nothing_but (ending_of (last_code p) p.line)
-unfolding last_code pick
-finish_ending p = go (finish_of p) refl
-  where
-    go : (x : Finished) → finish_of p ≡ x → finished x ≡ nothing_but (ending_of (code_in x) p.line)
-    go finish.Ended e = refl
-    go (finish.Refused code line) e = let f = finish_line p e in ap nothing_but (ap (refused code) f.1 ∙ sym (refused_ending code p.line f.0))
+-- how a sheet finishes
+finish_ending : (how : Result (Unit {0}) Refused) → finished (finished_of how) ≡ nothing_but (ending_of how)
+finish_ending (Ok _) = refl
+finish_ending (Err r) = refl
 
 pub submitting_starts :
-    {p : Place} {window out : List ℕ} {code turns : ℕ} → p ≡ line_start 1 → length window ≡ window_long → length out ≡ output_long → 1 + window_long * turns ≤ farthest →
-    Submitting p (replicate line_most 0) window out 0 0 0 true code going turns
+    {p : Place} {window out : List ℕ} {how : Result (Unit {0}) Refused} {turns : ℕ} → p ≡ line_start 1 → length window ≡ window_long → length out ≡ output_long → 1 + window_long * turns ≤ farthest →
+    Submitting p (replicate line_most 0) window out 0 0 0 true how going turns
 unfolding told_of flatten tape_of
 submitting_starts {p} {window} {out} e long out_long few = record {
   held_long = length-replicate {A = ℕ} line_most 0;
@@ -58,7 +49,7 @@ submitting_starts {p} {window} {out} e long out_long few = record {
   stopped = λ stop. absurd (omega arith);
 }
 
-module _ {p : Place} {held window out : List ℕ} {at from to : ℕ} {more : Bool} {code status turns : ℕ} (w : Submitting p held window out at from to more code status turns) where
+module _ {p : Place} {held window out : List ℕ} {at from to : ℕ} {more : Bool} {how : Result (Unit {0}) Refused} {status turns : ℕ} (w : Submitting p held window out at from to more how status turns) where
   -- the bytes at hand
   pub at_hand : length (take to window) ≡ to
   at_hand = length-take-le to window (omega (arith, w.within, w.window_long_lem))
@@ -96,7 +87,7 @@ module _ {p : Place} {held window out : List ℕ} {at from to : ℕ} {more : Boo
         ap (λ (x : List ℕ). written ++ x) front ∙ sym (append_assoc written (take at out) (sent_of os)) ∙ rw (e, sent_behind orders os)
 
     -- a turn that goes on, having sent what it could
-    module _ (none : d.code ≡ 0) (goes : status ≡ going) where
+    module _ (none : is_err d.told ≡ false) (goes : status ≡ going) where
       sent_on : CameTo d.place kept window lent d.at d.from to
       sent_on =
           let c = w.came goes in
@@ -109,8 +100,8 @@ module _ {p : Place} {held window out : List ℕ} {at from to : ℕ} {more : Boo
           }
 
     -- how the loop stands after a turn, by what it has come to
-    stands : {next : List ℕ} {now first last : ℕ} {goes_on : Bool} {how told : ℕ} → 0 < turns → length next ≡ window_long → now ≤ output_long → first ≤ last → last ≤ window_long →
-        (told ≡ going → CameTo d.place kept next lent now first last) → (Stopped told → CameToStop d.place lent now goes_on how) →
+    stands : {next : List ℕ} {now first last : ℕ} {goes_on : Bool} {how : Result (Unit {0}) Refused} {told : ℕ} → 0 < turns → length next ≡ window_long → now ≤ output_long → first ≤ last → last ≤ window_long →
+        (told ≡ going → CameTo d.place kept next lent now first last) → (Stopped told → CameToStop lent now goes_on how) →
         Submitting d.place kept next lent now first last goes_on how told (turns - 1)
     stands h long fits begun within came stopped = record {
       held_long = s.sends.kept_long ∙ w.held_long;
@@ -126,26 +117,23 @@ module _ {p : Place} {held window out : List ℕ} {at from to : ℕ} {more : Boo
     }
 
     -- the sheet is refused
-    pub turn_refused : 0 < turns → status ≡ going → 0 < d.code → {told : ℕ} → told ≡ status_of d.code →
-        Submitting d.place kept window lent d.at d.from to more d.code told (turns - 1)
-    turn_refused h goes stop {told} e =
+    pub turn_refused : 0 < turns → status ≡ going → is_err d.told ≡ true →
+        Submitting d.place kept window lent d.at d.from to more d.told refused (turns - 1)
+    turn_refused h goes stop =
         let c = w.came goes in
         stands h w.window_long_lem (omega (arith, fits_output, lent_long)) on_hand w.within
-        (λ on. absurd (omega (arith, e, stops_status d.code)))
+        (λ on. absurd (omega arith))
         (λ _. record {
           read = c.read;
           written = c.written;
           orders = c.orders ++ s.sends.orders;
           tape = tape_then c.written c.orders c.tape;
-          tells = λ rest _. c.tells rest ∙ rw (s.sends.stops stop rest, refused_ending d.code d.place.line stop);
+          tells = λ rest _. c.tells rest ∙ rw (s.sends.stops stop rest);
         })
 
-    module _ (h : 0 < turns) (goes : status ≡ going) (on : d.code ≤ 0) where
-      none : d.code ≡ 0
-      none = omega arith
-
+    module _ (h : 0 < turns) (goes : status ≡ going) (none : is_err d.told ≡ false) where
       -- what is written is written out
-      pub turn_writes : {told : ℕ} → (Stopped told → ⊥) → Submitting d.place kept window lent 0 d.from to more d.code told (turns - 1)
+      pub turn_writes : {told : ℕ} → (Stopped told → ⊥) → Submitting d.place kept window lent 0 d.from to more d.told told (turns - 1)
       turn_writes not =
           let c = sent_on none goes in
           stands h w.window_long_lem (omega arith) on_hand w.within
@@ -153,9 +141,9 @@ module _ {p : Place} {held window out : List ℕ} {at from to : ℕ} {more : Boo
           (λ stop. absurd (not stop))
 
       -- the sheet is read on
-      pub turn_reads : {next : List ℕ} {f : Filled} → Refilled window d.from to 0 next f → {told : ℕ} → (Stopped told → ⊥) →
-          Submitting d.place kept next lent d.at 0 f.to f.more d.code told (turns - 1)
-      turn_reads {next} {f} g not =
+      pub turn_reads : {next : List ℕ} {f : Filled} → Refilled window d.from to 0 next f →
+          Submitting d.place kept next lent d.at 0 f.to f.more d.told status (turns - 1)
+      turn_reads {next} {f} g =
           let c = sent_on none goes in
           let part : List ℕ = drop (to - d.from) (take f.to next) in
           let hand : take f.to next ≡ drop d.from (take to window) ++ part = read_behind on_hand (omega (arith, w.within, w.window_long_lem)) g in
@@ -171,18 +159,19 @@ module _ {p : Place} {held window out : List ℕ} {at from to : ℕ} {more : Boo
                 ∙ ap (λ (l : List ℕ). all_before c.orders (told d.place.line (begun_of d.place kept) l))
                 (sym (append_assoc (drop d.from (take to window)) part rest) ∙ ap (λ (l : List ℕ). l ++ rest) (sym hand)));
           })
-          (λ stop. absurd (not stop))
+          (λ stop. absurd (omega arith))
 
       -- the sheet has come to its end
-      pub turn_ends : most_bytes ≤ length lent - d.at → more ≡ false → {how told : ℕ} → how ≡ last_code d.place → told ≡ status_of how →
+      pub turn_ends :
+          most_bytes ≤ length lent - d.at → more ≡ false → {how : Result (Unit {0}) Refused} → finished_of how ≡ finish_of d.place → (well : Bool) {told : ℕ} → told ≡ status_of well →
           Submitting d.place kept window lent d.at d.from to more how told (turns - 1)
-      turn_ends room last {how} {told} is e =
+      turn_ends room last {how} is well e =
           let c = sent_on none goes in
           let used : d.from ≡ length (take to window) = s.all none (omega (arith, sends_long s.sends)) in
           let gone : drop d.from (take to window) ≡ [] = drop_of_length-le (take to window) {i = d.from} (omega arith) in
           let held_fits : d.place.held ≤ length kept = omega (arith, s.sends.good.few, s.sends.good.room) in
           stands h w.window_long_lem (omega (arith, fits_output, lent_long)) on_hand w.within
-          (λ on. absurd (omega (arith, e, stops_status how)))
+          (λ on. absurd (omega (arith, e, stops_status well)))
           (λ _. record {
             read = c.read;
             written = c.written;
@@ -190,5 +179,5 @@ module _ {p : Place} {held window out : List ℕ} {at from to : ℕ} {more : Boo
             tape = c.tape;
             tells = λ rest end.
                 let nothing : rest ≡ [] = end last in
-                c.tells rest ∙ rw (nothing, gone, ← finish_told d.place kept held_fits, finish_ending d.place, is, append-nil c.orders);
+                c.tells rest ∙ rw (nothing, gone, ← finish_told d.place kept held_fits, ← is, finish_ending how, append-nil c.orders);
           })

@@ -12,25 +12,22 @@ ghost use Rattle.tape.specs.Depth.{most_bytes};
 ghost use Rattle.window.specs.Refusal.{Lays};
 ghost use Rattle.sheet.specs.Submits.{submit_of};
 ghost use Rattle.submits.specs.Sending.{CanSend, SendsLine, CanSendAll, SendsAll};
-ghost use Rattle.submits.specs.Submitting.{last_code};
 
-use sheet::{Finished, LINE_MOST, Order, Place, Stepped, finish, step};
+use sheet::{Given, LINE_MOST, Order, Place, Refused, finish, step};
 use tape::MOST_BYTES;
 use tape::events::SUBMIT;
-use window::program::{
-    FAILED, GOING, TURNS, flush, opened, status_after, status_of, tell, tell_line,
-};
+use window::program::{Status, TURNS, flush, opened, status_of, tell, tell_line};
 use window::{WINDOW, refill};
-use writer::{Written, write};
+use writer::write;
 
 // How far sending has come: the place in the sheet, that of the next byte at hand, the place after what is written, and
-// 0, or the number by which the sheet is refused there.
+// whether the sheet is refused there.
 #[derive(Clone, Copy)]
 struct Sent {
     place: Place,
     from: usize,
     at: usize,
-    code: u32,
+    told: Result<(), Refused>,
 }
 
 // Writes the submit of an order behind the bytes that stand in the output, and answers the place after it.
@@ -50,11 +47,8 @@ fn put(order: Order, out: &mut [u8], at: usize) -> usize
         e.size.0,
         e.number,
     ];
-    let written = write(&numbers, &mut out[at..]);
-    match written {
-        Written::Used(n) => at + n,
-        Written::Refused(_) => at,
-    }
+    let used = write(&numbers, &mut out[at..]).unwrap();
+    at + used
 }
 
 // One step over the bytes at hand: where it gives an order, its submit is written.
@@ -69,25 +63,24 @@ fn send_line(
     requires { CanSend bytes.now from place held.old out.old at }
     ensures { SendsLine bytes.now from place held.old out.old at result held.new out.new }
 {
-    let told = step(bytes, from, place, held);
-    match told {
-        Stepped::More(next) => Sent {
+    match step(bytes, from, place, held) {
+        Ok(Given::More(next)) => Sent {
             place: next,
             from: bytes.len(),
-            at: at,
-            code: 0,
+            at,
+            told: Ok(()),
         },
-        Stepped::Order(order, end, next) => Sent {
+        Ok(Given::Order(order, end, next)) => Sent {
             place: next,
             from: end,
             at: put(order, out, at),
-            code: 0,
+            told: Ok(()),
         },
-        Stepped::Refused(code, _) => Sent {
-            place: place,
-            from: from,
-            at: at,
-            code: code,
+        Err(refused) => Sent {
+            place,
+            from,
+            at,
+            told: Err(refused),
         },
     }
 }
@@ -99,42 +92,33 @@ fn send(bytes: &[u8], from: usize, place: Place, held: &mut [u8], out: &mut [u8]
     ensures { SendsAll bytes.now from place held.old out.old at result held.new out.new }
 {
     let mut sent = Sent {
-        place: place,
-        from: from,
-        at: at,
-        code: 0,
+        place,
+        from,
+        at,
+        told: Ok(()),
     };
     while sent.from < bytes.len() {
         if out.len() - sent.at < MOST_BYTES {
             return sent;
         }
         sent = send_line(bytes, sent.from, sent.place, held, out, sent.at);
-        if sent.code > 0 {
+        if sent.told.is_err() {
             return sent;
         }
     }
     sent
 }
 
-// The number by which a sheet is refused that finishes at a place, and 0 where it ends there.
-fn last_code(place: Place) -> u32
-    ensures { result ≡ last_code place }
-{
-    let how = finish(place);
-    match how {
-        Finished::Ended => 0,
-        Finished::Refused(code, _) => code,
-    }
-}
-
 // Tells the refused line, where there is one.
-fn tell_refused(rt: &HostRuntime, code: u32, line: u64) {
-    tell_line(rt, b"sheet ", code, line);
+fn tell_refused(rt: &HostRuntime, told: Result<(), Refused>) {
+    if let Err(refused) = told {
+        tell_line(rt, b"sheet ", refused.why.number(), refused.line);
+    }
 }
 
 fn main(rt: HostRuntime) {
     let Some(mut source) = opened(&rt, 1, b"sheet") else {
-        tell(FAILED);
+        tell(Status::Failed);
         return;
     };
     let mut place = Place::new();
@@ -145,36 +129,39 @@ fn main(rt: HostRuntime) {
     let mut from: usize = 0;
     let mut to: usize = 0;
     let mut more = true;
-    let mut code: u32 = 0;
-    let mut status = GOING;
+    let mut told = Ok(());
+    let mut status = Status::Going;
     let mut turns = TURNS;
-    while turns > 0 && status == GOING {
+    while turns > 0 && status == Status::Going {
         turns -= 1;
         let sent = send(&window[..to], from, place, &mut held, &mut out, at);
         place = sent.place;
         at = sent.at;
         from = sent.from;
-        code = sent.code;
-        if code > 0 {
-            status = status_of(code);
+        told = sent.told;
+        if told.is_err() {
+            status = Status::Refused;
         } else if out.len() - at < MOST_BYTES {
             status = flush(&rt, &out, at);
             at = 0;
         } else if more {
-            let filled = refill(&mut source, &mut window, from, to, 0);
-            from = 0;
-            to = filled.to;
-            more = filled.more;
-            status = status_after(filled.failed);
+            match refill(&mut source, &mut window, from, to, 0) {
+                Ok(filled) => {
+                    from = 0;
+                    to = filled.to;
+                    more = filled.more;
+                }
+                Err(_) => status = Status::Failed,
+            }
         } else {
-            code = last_code(place);
-            status = status_of(code);
+            told = finish(place);
+            status = status_of(told.is_ok());
         }
     }
-    if flush(&rt, &out, at) == GOING && status != FAILED {
-        tell_refused(&rt, code, place.line);
+    if flush(&rt, &out, at) == Status::Going && status != Status::Failed {
+        tell_refused(&rt, told);
         tell(status);
     } else {
-        tell(FAILED);
+        tell(Status::Failed);
     }
 }

@@ -77,11 +77,8 @@ pub fn turns_in_all(tallies: Tallies) -> u64
     ensures { result ≡ turns_in_all tallies }
 {
     let mut sum: u64 = 0;
-    let mut i: usize = 0;
-    while i < TENANTS {
-        let t = tallies[i];
+    for t in &tallies {
         sum += t.turns;
-        i += 1;
     }
     sum
 }

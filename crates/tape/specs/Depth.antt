@@ -6,13 +6,15 @@ use Rattle.entry.specs.Numbers.{entry_numbers, bulk, bulk_numbers, from1to}
 use Rattle.entry.specs.NumberLaws.{from1to_bounds}
 use Rattle.tape.specs.declared.Event.{Event}
 use Rattle.tape.specs.declared.Event.TheVariants.{Settings, Away, Submit}
+use Rattle.tape.specs.declared.Refusal.{Refusal}
+use Rattle.tape.specs.declared.Refusal.TheVariants.{NoSuchCount}
 use Rattle.tape.specs.Tape.{Form, whole, bad, more, numbers, settings_numbers, settings_of, settings, away_of, away, entries, submit, kinds, form_of, event}
 use Rattle.tape.specs.Kinds.{Each, all, ◌also◌, each_form}
 
 -- at most so many numbers
 pub data Within : ℕ → Form → Type 0 where
   whole_within : {n : ℕ} {e : Event} → Within n (whole e)
-  bad_within : {n : ℕ} {code : ℕ} → Within n (bad code)
+  bad_within : {n : ℕ} {why : Refusal} → Within n (bad why)
   more_within : {n : ℕ} {f : ℕ → Form} → ((v : ℕ) → Within n (f v)) → Within (suc n) (more f)
 
 numbers_within : (n m : ℕ) (f : List ℕ → Event) → n ≤ m → Within m (numbers n (λ v. whole (f v)))
@@ -27,7 +29,7 @@ entries_within tenant count = go (from1to bulk count) refl
   where
     go :
         (t : Bool) → from1to bulk count ≡ t →
-        Within bulk_numbers (cond t (numbers (entry_numbers * count) (λ v. whole (Submit tenant count))) (bad 34))
+        Within bulk_numbers (cond t (numbers (entry_numbers * count) (λ v. whole (Submit tenant count))) (bad NoSuchCount))
     go true e = numbers_within (entry_numbers * count) bulk_numbers (λ v. Submit tenant count) (omega (arith, from1to_bounds bulk count e))
     go false e = bad_within
 

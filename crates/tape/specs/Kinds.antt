@@ -2,6 +2,7 @@
 use Rattle.std.specs.Prelude.{◌≡◌, refl, ◌⊎◌, List, [], ◌∷◌, ℕ}
 use Rattle.std.proofs.Common.{inl, inr, ⊎_elim, eq-eqb, ne_eqb}
 use Rattle.std.proofs.Math.Decide.{ℕ_discrete}
+use Rattle.tape.specs.declared.Refusal.TheVariants.{NoSuchEvent}
 use Rattle.tape.specs.Tape.{Form, bad, Kind, form_in}
 
 -- what holds of each kind of a table, row by row
@@ -11,7 +12,7 @@ pub data Each (P : ℕ → Form → Type 0) : List Kind → Type 0 where
   ◌also◌ : {k : Kind} {ks : List Kind} → P k.number k.form → Each P ks → Each P (k ∷ ks)
 
 -- holds of the form behind every number, if it holds of 33, too
-pub each_form : (P : ℕ → Form → Type 0) (ks : List Kind) (n : ℕ) → Each P ks → P n (bad 33) → P n (form_in ks n)
+pub each_form : (P : ℕ → Form → Type 0) (ks : List Kind) (n : ℕ) → Each P ks → P n (bad NoSuchEvent) → P n (form_in ks n)
 unfolding form_in
 each_form P [] n all other = other
 each_form P (k ∷ ks) n (row also rows) other = elim (ℕ_discrete n k.number) [
@@ -25,7 +26,7 @@ Other so [] n = so
 Other so (k ∷ ks) n = Other (so × (n ≡ k.number → ⊥)) ks n
 
 -- 33 is another event number
-pub form_33 : {so : Type 0} (ks : List Kind) (n : ℕ) → Other so ks n → (form_in ks n ≡ bad 33) × so
+pub form_33 : {so : Type 0} (ks : List Kind) (n : ℕ) → Other so ks n → (form_in ks n ≡ bad NoSuchEvent) × so
 unfolding form_in
 form_33 [] n other = (refl, other)
 form_33 (k ∷ ks) n other =
@@ -37,7 +38,7 @@ abbrev pub NoneHas : List Kind → ℕ → Type 0
 NoneHas [] n = Unit {0}
 NoneHas (k ∷ ks) n = (n ≡ k.number → ⊥) × NoneHas ks n
 
-pub none_has : (ks : List Kind) (n : ℕ) → NoneHas ks n → form_in ks n ≡ bad 33
+pub none_has : (ks : List Kind) (n : ℕ) → NoneHas ks n → form_in ks n ≡ bad NoSuchEvent
 unfolding form_in
 none_has [] n none = refl
 none_has (k ∷ ks) n (d, none) = rw (ne_eqb n k.number d) (none_has ks n none)

@@ -1,5 +1,6 @@
 -- What the tape reader promises: the form of events and the event at a place, and how the bytes and what is read of
 -- them fit together.
+pub mod Refusal
 pub mod Tape
 pub mod Kinds
 pub mod Several

@@ -6,6 +6,6 @@ use Rattle.tape.specs.Tape.{Form, whole, bad, more}
 unfoldable pub one_event : Form → List ℕ → Bool
 one_event (whole e) [] = true
 one_event (whole e) (v ∷ vs) = false
-one_event (bad code) vs = false
+one_event (bad why) vs = false
 one_event (more f) [] = false
 one_event (more f) (v ∷ vs) = one_event (f v) vs

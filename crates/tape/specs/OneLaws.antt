@@ -21,7 +21,7 @@ pub one_leads : (form : Form) (vs : List ℕ) → one_event form vs ≡ true →
 unfolding one_event
 one_leads (whole e) [] h = (e, refl)
 one_leads (whole e) (v ∷ vs) h = absurd (false≢true h)
-one_leads (bad code) vs h = absurd (false≢true h)
+one_leads (bad why) vs h = absurd (false≢true h)
 one_leads (more f) [] h = absurd (false≢true h)
 one_leads (more f) (v ∷ vs) h = one_leads (f v) vs h
 
@@ -30,7 +30,7 @@ pub leads_one : (form : Form) (vs : List ℕ) (e : Event) → Leads form vs e �
 unfolding one_event
 leads_one (whole e') [] e l = refl
 leads_one (whole e') (v ∷ vs) e l = absurd l
-leads_one (bad code) vs e l = absurd l
+leads_one (bad why) vs e l = absurd l
 leads_one (more f) [] e l = absurd l
 leads_one (more f) (v ∷ vs) e l = leads_one (f v) vs e l
 
@@ -39,7 +39,7 @@ one_most : (n : ℕ) (form : Form) (vs : List ℕ) → Within n form → one_eve
 unfolding one_event
 one_most n (whole e) [] w h = omega arith
 one_most n (whole e) (v ∷ vs) w h = absurd (false≢true h)
-one_most n (bad code) vs w h = absurd (false≢true h)
+one_most n (bad why) vs w h = absurd (false≢true h)
 one_most n (more f) [] w h = omega arith
 one_most zero (more f) (v ∷ vs) w h = elim w [ ]
 one_most (suc n) (more f) (v ∷ vs) (more_within w) h = let i = one_most n (f v) vs (w v) h in omega arith

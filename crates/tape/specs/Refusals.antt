@@ -1,26 +1,28 @@
 -- By which number a tape is refused, and where: each of 30 to 34 exactly in its case.
-use Rattle.std.specs.Prelude.{◌≡◌, Bool, ◌↔◌, ◌⊎◌, List, ◌∷◌, ℕ, zero, suc, ◌*◌, ◌≤◌, ◌<◌, leb, length, drop}
+use Rattle.std.specs.Prelude.{◌≡◌, Bool, ◌↔◌, ◌⊎◌, List, ◌∷◌, ℕ, zero, suc, ◌*◌, ◌≤◌, ◌<◌, leb, length, Ok, Err}
 use Rattle.std.proofs.Math.Path.{refl, sym}
 use Rattle.std.proofs.Common.{ap, ◌∙◌, le-leb}
 use Rattle.std.proofs.Math.Bool.{true, false}
 use Rattle.std.proofs.Math.Logic.{inl, inr, ⊎_elim}
 use native.Mathlib.Omega.{arith}
 use Rattle.units.specs.Tests.{and_holds, holds_not_fails}
-use Rattle.numeral.specs.declared.Number.TheVariants as number
+use Rattle.numeral.specs.declared.Refusal as number
+use Rattle.numeral.specs.declared.Refusal.TheVariants as numbered
 use Rattle.numeral.specs.Number.{number_at}
-use Rattle.numeral.specs.Plain.{Refusal, is_above, is_short, is_padded}
-use Rattle.numeral.specs.Cases.{below, exactly}
+use Rattle.numeral.specs.Cases.{below}
 use Rattle.numeral.specs.Laws.{place}
 use Rattle.numeral.specs.Window.{answer, is_read, is_refused}
 use Rattle.entry.specs.Numbers.{entry_numbers, bulk, from1to}
 use Rattle.entry.specs.NumberLaws.{from1to_bounds}
 use Rattle.tape.specs.declared.Event.{Event}
 use Rattle.tape.specs.declared.Event.TheVariants.{Settings, Away, Submit, Turn, Open}
-use Rattle.tape.specs.declared.Reading.TheVariants.{Refused}
-use Rattle.tape.specs.Tape.{Form, whole, bad, more, numbers, settings_numbers, settings_of, settings, away_of, away, entries, submit, kinds, form_in, form_of, event, reading, event_at}
+use Rattle.tape.specs.declared.Refusal.{Refusal}
+use Rattle.tape.specs.declared.Refusal.TheVariants.{Number, NoSuchEvent, NoSuchCount}
+use Rattle.tape.specs.Refusal.{refusal_number}
+use Rattle.tape.specs.Tape.{Reading, refusal_at, Form, whole, bad, more, numbers, settings_numbers, settings_of, settings, away_of, away, entries, submit, kinds, form_in, form_of, event, reading, event_at}
 use Rattle.tape.specs.Kinds.{Each, all, ◌also◌, NoneHas, each_or_none, none_has}
 use Rattle.tape.specs.Steps.{entries_bad, entries_several}
-use Rattle.tape.specs.TapeLaws.{refused_read, on_tape, past_tape, end_refused}
+use Rattle.tape.specs.TapeLaws.{refused_read, refusal_same, on_tape, past_tape, end_refused}
 
 -- ---- the cases
 
@@ -29,7 +31,7 @@ pub record OtherEvent (s : List ℕ) (at p : ℕ) : Type 0 where
   pub here : p ≡ at
   pub kind : ℕ
   pub next : ℕ
-  pub read : number_at s at ≡ number.Read kind next
+  pub read : number_at s at ≡ Ok (kind, next)
   pub none : (kind < 1) ⊎ (5 < kind)
 
 -- 34: of a submit, the count is read and is not 1 to 20; its place is where the tenant ends
@@ -38,9 +40,9 @@ pub record BadCount (s : List ℕ) (at p : ℕ) : Type 0 where
   pub tenant : ℕ
   pub count : ℕ
   pub next : ℕ
-  pub submits : number_at s at ≡ number.Read 3 behind
-  pub of_tenant : number_at s behind ≡ number.Read tenant p
-  pub read : number_at s p ≡ number.Read count next
+  pub submits : number_at s at ≡ Ok (3, behind)
+  pub of_tenant : number_at s behind ≡ Ok (tenant, p)
+  pub read : number_at s p ≡ Ok (count, next)
   pub outside : (count < 1) ⊎ (bulk < count)
 
 -- ---- the proofs
@@ -55,15 +57,19 @@ unfolding numbers
 numbers_none zero f = none_whole
 numbers_none (suc n) f = none_more (λ v. numbers_none n (λ vs. f (v ∷ vs)))
 
-module _ (s : List ℕ) (code p : ℕ) where
+module _ (s : List ℕ) (why : Refusal) (p : ℕ) where
+  -- it is refused by the bytes of a number, at its place
+  abbrev pub ByBytes : Type 0
+  ByBytes = (k : number.Refusal) × (Number k ≡ why) × (number_at s p ≡ Err k)
+
   -- what is refused at a number's place by the number's own refusal
-  same_refusal : {k at : ℕ} → number_at s at ≡ number.Refused k → Refused k at ≡ Refused code p → number_at s p ≡ number.Refused code
-  same_refusal {k} {at} r same = let e : at ≡ p = cc in let c : k ≡ code = cc in rw (e, c) at r
+  same_refusal : {k : number.Refusal} {at : ℕ} → number_at s at ≡ Err k → ◌≡◌ {A = Reading} (Err (refusal_at (Number k) at)) (Err (refusal_at why p)) → ByBytes
+  same_refusal {k} {at} r same = let e = refusal_same same in (k, e.0, rw e.1 at r)
 
   -- it is refused by the bytes of a number alone
-  by_bytes : (form : Form) (last at : ℕ) → NoneBad form → reading form s last at ≡ Refused code p → number_at s p ≡ number.Refused code
+  by_bytes : (form : Form) (last at : ℕ) → NoneBad form → reading form s last at ≡ Err (refusal_at why p) → ByBytes
   unfolding reading
-  by_bytes (whole e) last at none q = absurd (refused_read code p e at (sym q))
+  by_bytes (whole e) last at none q = absurd (refused_read why p e at (sym q))
   by_bytes (bad _) last at none q = elim none [ ]
   by_bytes (more f) last at (none_more none) q = elim (answer (number_at s at)) [
     | is_read v next r ↦ by_bytes (f v) at next (none v) (rw r at q)
@@ -71,14 +77,13 @@ module _ (s : List ℕ) (code p : ℕ) where
   ]
 
   -- so by 30 to 32
-  byte_codes : number_at s p ≡ number.Refused code → (30 ≤ code) × (code ≤ 32)
-  unfolding number_at
-  byte_codes q = go code ((exactly (drop p s) p code).0 q)
+  byte_codes : ByBytes → (30 ≤ refusal_number why) × (refusal_number why ≤ 32)
+  byte_codes (k, e, is) = rw (← e) (go k)
     where
-      go : (c : ℕ) → Refusal (drop p s) c → (30 ≤ c) × (c ≤ 32)
-      go _ (is_above a) = (omega arith, omega arith)
-      go _ (is_short a) = (omega arith, omega arith)
-      go _ (is_padded a) = (omega arith, omega arith)
+      go : (k : number.Refusal) → (30 ≤ refusal_number (Number k)) × (refusal_number (Number k) ≤ 32)
+      go numbered.CutShort = (omega arith, omega arith)
+      go numbered.Padded = (omega arith, omega arith)
+      go numbered.TooLarge = (omega arith, omega arith)
 
   -- a count is outside 1 to 20, or inside
   counted : (count : ℕ) → from1to bulk count ≡ false → (count < 1) ⊎ (bulk < count)
@@ -88,7 +93,7 @@ module _ (s : List ℕ) (code p : ℕ) where
       (λ most. absurd (holds_not_fails (and_holds (leb 1 count) _ (le-leb 1 count least) (le-leb count bulk most)) fails))
       (below bulk count)) (below count 1)
 
-  outside_34 : (tenant count : ℕ) → (count < 1) ⊎ (bulk < count) → entries tenant count ≡ bad 34
+  outside_34 : (tenant count : ℕ) → (count < 1) ⊎ (bulk < count) → entries tenant count ≡ bad NoSuchCount
   outside_34 tenant count out = entries_bad tenant count (go (from1to bulk count) refl)
     where
       go : (t : Bool) → from1to bulk count ≡ t → from1to bulk count ≡ false
@@ -98,9 +103,9 @@ module _ (s : List ℕ) (code p : ℕ) where
   -- behind the event number of a kind 34 is given for the count of a submit alone, and 33 not at all
   module _ (at next : ℕ) where
     abbrev Known : ℕ → Form → Type 0
-    Known kind form = reading form s at next ≡ Refused code p
-        → (number_at s p ≡ number.Refused code)
-        ⊎ ((code ≡ 34) × (number_at s at ≡ number.Read kind next → BadCount s at p))
+    Known kind form = reading form s at next ≡ Err (refusal_at why p)
+        → ByBytes
+        ⊎ ((why ≡ NoSuchCount) × (number_at s at ≡ Ok (kind, next) → BadCount s at p))
 
     submit_known : Known 3 submit
     unfolding reading submit
@@ -112,18 +117,17 @@ module _ (s : List ℕ) (code p : ℕ) where
       | is_refused k r ↦ inl (same_refusal r (rw r at q))
     ]
       where
-        go : (tenant from count end : ℕ) → number_at s next ≡ number.Read tenant from → number_at s from ≡ number.Read count end
-            → (t : Bool) → from1to bulk count ≡ t → reading (entries tenant count) s from end ≡ Refused code p
-            → (number_at s p ≡ number.Refused code) ⊎ ((code ≡ 34) × (number_at s at ≡ number.Read 3 next → BadCount s at p))
+        go : (tenant from count end : ℕ) → number_at s next ≡ Ok (tenant, from) → number_at s from ≡ Ok (count, end)
+            → (t : Bool) → from1to bulk count ≡ t → reading (entries tenant count) s from end ≡ Err (refusal_at why p)
+            → ByBytes ⊎ ((why ≡ NoSuchCount) × (number_at s at ≡ Ok (3, next) → BadCount s at p))
         go tenant from count end r z true e x =
             inl (by_bytes (numbers (entry_numbers * count) (λ v. whole (Submit tenant count))) from end
             (numbers_none (entry_numbers * count) (λ v. Submit tenant count)) (rw (entries_several tenant count e) at x))
         go tenant from count end r z false e x =
-            let same : Refused 34 from ≡ Refused code p = rw (entries_bad tenant count e) at x in
-            let place : from ≡ p = cc in
-            let c : 34 ≡ code = cc in
+            let same = refusal_same (rw (entries_bad tenant count e) at x) in
+            let place : from ≡ p = same.1 in
             inr (
-              sym c,
+              sym same.0,
               λ three. record {
                 behind = next;
                 tenant = tenant;
@@ -147,10 +151,13 @@ module _ (s : List ℕ) (code p : ℕ) where
         also all
 
 -- why an event is refused: the bytes of a number are, or the event number is another, or a count is not 1 to 20
-pub data Why (s : List ℕ) (at p : ℕ) : ℕ → Type 0 where
-  bytes : {code : ℕ} → number_at s p ≡ number.Refused code → Why s at p code
-  other : OtherEvent s at p → Why s at p 33
-  counts : BadCount s at p → Why s at p 34
+pub data Why (s : List ℕ) (at p : ℕ) : Refusal → Type 0 where
+  bytes : {k : number.Refusal} → number_at s p ≡ Err k → Why s at p (Number k)
+  other : OtherEvent s at p → Why s at p NoSuchEvent
+  counts : BadCount s at p → Why s at p NoSuchCount
+
+of_bytes : {s : List ℕ} {at p : ℕ} {r : Refusal} → ByBytes s r p → Why s at p r
+of_bytes (k, e, is) = rw (← e) (bytes is)
 
 no_kind : (kind : ℕ) → NoneHas kinds kind → (kind < 1) ⊎ (5 < kind)
 no_kind kind none = ⊎_elim inl
@@ -159,21 +166,19 @@ no_kind kind none = ⊎_elim inl
     (below 5 kind))
     (below kind 1)
 
-pub why : (s : List ℕ) (at code p : ℕ) → event_at s at ≡ Refused code p → Why s at p code
+pub why : (s : List ℕ) (at : ℕ) (r : Refusal) (p : ℕ) → event_at s at ≡ Err (refusal_at r p) → Why s at p r
 unfolding reading event form_of
-why s at code p q = ⊎_elim (λ h. go (sym (on_tape s at h) ∙ q)) (λ h. absurd (end_refused code p (sym (past_tape s at h) ∙ q))) (below at (length s))
+why s at w p q = ⊎_elim (λ h. go (sym (on_tape s at h) ∙ q)) (λ h. absurd (end_refused w p (sym (past_tape s at h) ∙ q))) (below at (length s))
   where
-    go : reading event s at at ≡ Refused code p → Why s at p code
+    go : reading event s at at ≡ Err (refusal_at w p) → Why s at p w
     go f = elim (answer (number_at s at)) [
-      | is_refused k r ↦ bytes (same_refusal s code p r (rw r at f))
+      | is_refused k r ↦ of_bytes (same_refusal s w p r (rw r at f))
       | is_read kind next r ↦ ⊎_elim
-          (λ known. ⊎_elim bytes (λ (c, of_count). rw c (counts (of_count r))) (known (rw r at f)))
+          (λ known. ⊎_elim of_bytes (λ (c, of_count). rw c (counts (of_count r))) (known (rw r at f)))
           (λ none.
-          let same : Refused 33 at ≡ Refused code p = sym (ap (λ form. reading form s at next) (none_has kinds kind none)) ∙ (rw r at f) in
-          let e : at ≡ p = cc in
-          let c : 33 ≡ code = cc in
-          rw (← c) (other (record { here = sym e; kind = kind; next = next; read = r; none = no_kind kind none })))
-          (each_or_none (Known s code p at next) kinds kind (kinds_known s code p at next))
+          let same = refusal_same (sym (ap (λ form. reading form s at next) (none_has kinds kind none)) ∙ (rw r at f)) in
+          rw (← same.0) (other (record { here = sym same.1; kind = kind; next = next; read = r; none = no_kind kind none })))
+          (each_or_none (Known s w p at next) kinds kind (kinds_known s w p at next))
     ]
 
 none_known : (kind : ℕ) → (kind < 1) ⊎ (5 < kind) → NoneHas kinds kind
@@ -186,43 +191,43 @@ none_known kind out = (
     not k low high e = ⊎_elim (λ l. omega arith) (λ l. omega arith) out
 
 -- a number that is read stands on the tape
-read_on_tape : (s : List ℕ) (at v next : ℕ) → number_at s at ≡ number.Read v next → at < length s
+read_on_tape : (s : List ℕ) (at v next : ℕ) → number_at s at ≡ Ok (v, next) → at < length s
 read_on_tape s at v next r = let m = place s at v next r in omega (arith, m.0, m.1)
 
 -- 33 is another event number, given at its place
-pub exactly_33 : (s : List ℕ) (at p : ℕ) → (event_at s at ≡ Refused 33 p) ↔ OtherEvent s at p
+pub exactly_33 : (s : List ℕ) (at p : ℕ) → (event_at s at ≡ Err (refusal_at NoSuchEvent p)) ↔ OtherEvent s at p
 unfolding reading event form_of
-exactly_33 s at p = (λ q. told (why s at 33 p q) refl, gives)
+exactly_33 s at p = (λ q. told (why s at NoSuchEvent p q) refl, gives)
   where
-    told : {code : ℕ} → Why s at p code → code ≡ 33 → OtherEvent s at p
-    told {code} (bytes r) e = absurd (omega (arith, byte_codes s code p r))
+    told : {w : Refusal} → Why s at p w → w ≡ NoSuchEvent → OtherEvent s at p
+    told (bytes r) e = absurd (cc)
     told (other o) e = o
-    told (counts c) e = absurd (omega arith)
+    told (counts c) e = absurd (cc)
 
-    gives : OtherEvent s at p → event_at s at ≡ Refused 33 p
+    gives : OtherEvent s at p → event_at s at ≡ Err (refusal_at NoSuchEvent p)
     gives o = on_tape s at (read_on_tape s at o.kind o.next o.read)
         ∙ rw (o.here, o.read) (ap (λ form. reading form s at o.next) (none_has kinds o.kind (none_known o.kind o.none)))
 
 -- 34 is a count not 1 to 20, given at its place
-pub exactly_34 : (s : List ℕ) (at p : ℕ) → (event_at s at ≡ Refused 34 p) ↔ BadCount s at p
+pub exactly_34 : (s : List ℕ) (at p : ℕ) → (event_at s at ≡ Err (refusal_at NoSuchCount p)) ↔ BadCount s at p
 unfolding reading event form_of form_in submit
-exactly_34 s at p = (λ q. told (why s at 34 p q) refl, gives)
+exactly_34 s at p = (λ q. told (why s at NoSuchCount p q) refl, gives)
   where
-    told : {code : ℕ} → Why s at p code → code ≡ 34 → BadCount s at p
-    told {code} (bytes r) e = absurd (omega (arith, byte_codes s code p r))
-    told (other o) e = absurd (omega arith)
+    told : {w : Refusal} → Why s at p w → w ≡ NoSuchCount → BadCount s at p
+    told (bytes r) e = absurd (cc)
+    told (other o) e = absurd (cc)
     told (counts c) e = c
 
-    gives : BadCount s at p → event_at s at ≡ Refused 34 p
+    gives : BadCount s at p → event_at s at ≡ Err (refusal_at NoSuchCount p)
     gives c = on_tape s at (read_on_tape s at 3 c.behind c.submits)
         ∙ rw (c.submits, c.of_tenant, c.read)
-        (ap (λ form. reading form s p c.next) (outside_34 s 34 p c.tenant c.count c.outside))
+        (ap (λ form. reading form s p c.next) (outside_34 s NoSuchCount p c.tenant c.count c.outside))
 
 -- any other refusal is that of a number's bytes, at the number's place (`exactly`, of numerals, says which of 30 to 32)
-pub by_number : (s : List ℕ) (at code p : ℕ) → event_at s at ≡ Refused code p → code < 33 → number_at s p ≡ number.Refused code
-by_number s at code p q low = told (why s at code p q) low
+pub by_number : (s : List ℕ) (at : ℕ) (k : number.Refusal) (p : ℕ) → event_at s at ≡ Err (refusal_at (Number k) p) → number_at s p ≡ Err k
+by_number s at k p q = told (why s at (Number k) p q) refl
   where
-    told : {c : ℕ} → Why s at p c → c < 33 → number_at s p ≡ number.Refused c
-    told (bytes r) l = r
-    told (other o) l = absurd (omega arith)
-    told (counts c) l = absurd (omega arith)
+    told : {w : Refusal} → Why s at p w → w ≡ Number k → number_at s p ≡ Err k
+    told (bytes {k = j} r) e = let same : j ≡ k = cc in rw same at r
+    told (other o) e = absurd (cc)
+    told (counts c) e = absurd (cc)

@@ -1,6 +1,6 @@
 -- What is read is determined by the bytes it was read from, and determines them: an event has just one list of numbers,
 -- and these just one spelling.
-use Rattle.std.specs.Prelude.{◌≡◌, refl, Bool, true, false, List, [], ◌∷◌, ◌++◌, ℕ, ◌+◌, ◌-◌, ◌*◌, ◌≤◌, length, get_or, take, drop}
+use Rattle.std.specs.Prelude.{◌≡◌, refl, Bool, true, false, List, [], ◌∷◌, ◌++◌, ℕ, ◌+◌, ◌-◌, ◌*◌, ◌≤◌, length, get_or, take, drop, Some, Ok}
 use Rattle.std.proofs.Common.{sym, ap, ◌∙◌, subst, arith, take_at}
 use Rattle.units.specs.Units.{cents}
 use Rattle.units.specs.Places.{table, table_is}
@@ -9,7 +9,6 @@ use Rattle.entry.specs.Numbers.{entry_numbers, bulk, bulk_numbers, from1to}
 use Rattle.entry.specs.NumberLaws.{from1to_bounds}
 use Rattle.tape.specs.declared.Event.{Event}
 use Rattle.tape.specs.declared.Event.TheVariants.{Settings, Away, Submit, Turn, Open}
-use Rattle.tape.specs.declared.Reading.TheVariants.{Read}
 use Rattle.tape.specs.Tape.{Form, whole, numbers, settings_numbers, settings_of, settings, away, entries, submit, kinds, form_in, form_of, event, numbers_at, event_at, entries_of, entries_at, entries_after}
 use Rattle.tape.specs.Kinds.{Each, all, ◌also◌, each_form}
 use Rattle.tape.specs.Several.{stored_front}
@@ -95,7 +94,7 @@ leads_spells (n ∷ vs) e l = each_form FormSpells kinds n kinds_spell (λ vs e 
 
 -- an event that is read: its numbers make it, and their encodings are the bytes from its place to its end
 pub spelt :
-    (s : List ℕ) (at : ℕ) (e : Event) (end : ℕ) → Bytes s → event_at s at ≡ Read e end →
+    (s : List ℕ) (at : ℕ) (e : Event) (end : ℕ) → Bytes s → event_at s at ≡ Ok (Some (e, end)) →
     Spells (numbers_at event s at) e × (drop at s ≡ encode_all (numbers_at event s at) ++ drop end s) ×
     (end ≡ at + length (encode_all (numbers_at event s at)))
 spelt s at e end b q = let i = read_spelt s at e end b q in (leads_spells _ e (read_leads s at e end q), i.0, i.1)
@@ -128,7 +127,7 @@ one_spelling _ _ spells_open = refl
 
 -- what is read determines the bytes it was read from
 pub consumed :
-    (s : List ℕ) (at : ℕ) (e : Event) (end : ℕ) → Bytes s → event_at s at ≡ Read e end →
+    (s : List ℕ) (at : ℕ) (e : Event) (end : ℕ) → Bytes s → event_at s at ≡ Ok (Some (e, end)) →
     take (end - at) (drop at s) ≡ encode_all (numbers_of e (entries_at s at))
 consumed s at e end b q =
     let i = spelt s at e end b q in
@@ -137,7 +136,7 @@ consumed s at e end b q =
 
 pub determined :
     (s t : List ℕ) (at at' : ℕ) (e : Event) (end end' : ℕ) → Bytes s → Bytes t →
-    event_at s at ≡ Read e end → event_at t at' ≡ Read e end' → entries_at s at ≡ entries_at t at' →
+    event_at s at ≡ Ok (Some (e, end)) → event_at t at' ≡ Ok (Some (e, end')) → entries_at s at ≡ entries_at t at' →
     take (end - at) (drop at s) ≡ take (end' - at') (drop at' t)
 determined s t at at' e end end' b c p q same =
     consumed s at e end b p ∙ ap (λ (v : List ℕ). encode_all (numbers_of e v)) same ∙ sym (consumed t at' e end' c q)
@@ -146,14 +145,14 @@ determined s t at at' e end end' b c p q same =
 -- stand and whatever stands behind
 pub read_back :
     (front vs rest : List ℕ) (e : Event) → Fit vs → Spells vs e →
-    (event_at (front ++ (encode_all vs ++ rest)) (length front) ≡ Read e (length front + length (encode_all vs))) ×
+    (event_at (front ++ (encode_all vs ++ rest)) (length front) ≡ Ok (Some (e, length front + length (encode_all vs)))) ×
     (entries_at (front ++ (encode_all vs ++ rest)) (length front) ≡ entries_of vs)
 read_back front vs rest e fit l = leads_read front vs rest e fit (spells_leads vs e l)
 
 -- a submit that is read: its count is 1 to 20, and lent memory that reaches holds the numbers of so many entries at its
 -- front
 pub submitted :
-    (s : List ℕ) (at tenant count end : ℕ) (out : List ℕ) → event_at s at ≡ Read (Submit tenant count) end → bulk_numbers ≤ length out →
+    (s : List ℕ) (at tenant count end : ℕ) (out : List ℕ) → event_at s at ≡ Ok (Some (Submit tenant count, end)) → bulk_numbers ≤ length out →
     (1 ≤ count) × (count ≤ bulk) × (length (entries_at s at) ≡ entry_numbers * count) × (take (entry_numbers * count) (entries_after s at out) ≡ entries_at s at)
 unfolding entries_after event form_of form_in submit
 submitted s at tenant count end out q enough =

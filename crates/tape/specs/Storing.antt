@@ -1,5 +1,5 @@
 -- Numbers stored from a place on, as far as the memory reaches, and those of an event.
-use Rattle.std.specs.Prelude.{◌≡◌, refl, ◌⊎◌, List, [], ◌∷◌, ℕ, ◌+◌, ◌≤◌, ◌<◌, length, get_or, take, drop, set}
+use Rattle.std.specs.Prelude.{◌≡◌, refl, ◌⊎◌, List, [], ◌∷◌, ℕ, ◌+◌, ◌≤◌, ◌<◌, length, get_or, take, drop, set, Some, Ok}
 use Rattle.std.proofs.Common.{sym, ap, ◌∙◌, ⊎_elim, add-one, arith, length-set, take-append-drop, length-take-le, take-suc, take_all}
 use Rattle.std.proofs.lemmas.List.Edits.{sets}
 use Rattle.units.specs.Places.{sets_append}
@@ -7,7 +7,6 @@ use Rattle.numeral.specs.Writing.{sets_past}
 use Rattle.entry.specs.Numbers.{bulk_numbers}
 use Rattle.tape.specs.declared.Event.{Event}
 use Rattle.tape.specs.declared.Event.TheVariants.{Settings, Away, Submit, Turn, Open}
-use Rattle.tape.specs.declared.Reading.TheVariants.{Read}
 use Rattle.tape.specs.Tape.{event_at, entries_at, entries_after, stored}
 use Rattle.tape.specs.Several.{stored_sets}
 use Rattle.tape.specs.Spelling.{numbers_of, entries_in, submitted}
@@ -57,7 +56,7 @@ event_stored k v out is laid long = rw is (laid ∙ stored_sets (numbers_of k v)
 
 -- of the numbers that were stored the first are those of the event's entries
 pub entries_back :
-    (s : List ℕ) (at end : ℕ) (lent : List ℕ) → bulk_numbers ≤ length lent → (e : Event) → event_at s at ≡ Read e end →
+    (s : List ℕ) (at end : ℕ) (lent : List ℕ) → bulk_numbers ≤ length lent → (e : Event) → event_at s at ≡ Ok (Some (e, end)) →
     (entries_in e ≤ bulk_numbers) × (numbers_of e (take (entries_in e) (entries_after s at lent)) ≡ numbers_of e (entries_at s at))
 entries_back s at end lent enough (Settings x) q = (omega arith, refl)
 entries_back s at end lent enough (Away quote) q = (omega arith, refl)

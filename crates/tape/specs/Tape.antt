@@ -1,22 +1,30 @@
 -- The events of a tape.
-use Rattle.std.specs.Prelude.{ℕ, zero, suc, ◌*◌, List, [], ◌∷◌, cond, length, get_or, ltb, eqb}
+use Rattle.std.specs.Prelude.{ℕ, zero, suc, ◌*◌, List, [], ◌∷◌, cond, length, get_or, ltb, eqb, Option, Some, None, Result, Ok, Err}
 use Rattle.units.specs.Units.{cents}
-use Rattle.numeral.specs.declared.Number.{Number}
-use Rattle.numeral.specs.declared.Number.TheVariants as number
-use Rattle.numeral.specs.Number.{number_at}
+use Rattle.numeral.specs.declared.Refusal as number
+use Rattle.numeral.specs.Number.{Number as Numeral, number_at}
 use Rattle.entry.specs.Numbers.{entry_numbers, bulk, from1to}
 use Rattle.entry.specs.declared.Away as entry_away
 use Rattle.entry.specs.declared.Settings as entry
 use Rattle.tape.specs.declared.Event.{Event}
 use Rattle.tape.specs.declared.Event.TheVariants.{Settings, Away, Submit, Turn, Open}
-use Rattle.tape.specs.declared.Reading.{Reading}
-use Rattle.tape.specs.declared.Reading.TheVariants.{Read, Refused, End}
+use Rattle.tape.specs.declared.Refusal.{Refusal}
+use Rattle.tape.specs.declared.Refusal.TheVariants.{Number, NoSuchEvent, NoSuchCount}
+use Rattle.tape.specs.declared.Refused.{Refused}
+
+-- an event with the place after its last number, or none where the tape ends between two events, or a refusal with the
+-- place of the bad number
+abbrev pub Reading : Type 0
+Reading = Result (Option (Event × ℕ)) Refused
+
+abbrev pub refusal_at : Refusal → ℕ → Refused
+refusal_at why place = record { why = why; place = place }
 
 -- how an event is spelt, number by number: it is whole, or the number just read is bad by a refusal, or one more number
 -- comes, and what follows depends on it
 pub data Form : Type 0 where
   whole : Event → Form
-  bad : ℕ → Form
+  bad : Refusal → Form
   more : (ℕ → Form) → Form
 
 -- so many numbers, and what they make
@@ -56,7 +64,7 @@ away = numbers 2 (λ v. whole (Away (away_of v)))
 
 -- a bulk's entries, in numbers; 34 a count not 1 to 20
 unfoldable pub entries : ℕ → ℕ → Form
-entries tenant count = cond (from1to bulk count) (numbers (entry_numbers * count) (λ v. whole (Submit tenant count))) (bad 34)
+entries tenant count = cond (from1to bulk count) (numbers (entry_numbers * count) (λ v. whole (Submit tenant count))) (bad NoSuchCount)
 
 -- submit (tenant, count, entries)
 unfoldable pub submit : Form
@@ -83,7 +91,7 @@ kinds =
 
 -- how the kind of a number is spelt; 33 is another event number
 unfoldable pub form_in : List Kind → ℕ → Form
-form_in [] n = bad 33
+form_in [] n = bad NoSuchEvent
 form_in (k ∷ ks) n = cond (eqb n k.number) k.form (form_in ks n)
 
 unfoldable pub form_of : ℕ → Form
@@ -93,26 +101,26 @@ unfoldable pub event : Form
 event = more form_of
 
 -- what follows a number that was read, or else what follows its refusal
-abbrev pub after : {A : Type 0} → Number → (ℕ → ℕ → A) → (ℕ → A) → A
-after (number.Read v next) f g = f v next
-after (number.Refused code) f g = g code
+abbrev pub after : {A : Type 0} → Numeral → (ℕ → ℕ → A) → (number.Refusal → A) → A
+after (Ok (v, next)) f g = f v next
+after (Err why) f g = g why
 
 -- what is read from a place on, the number read last being at the place `last`: an event with the place after it, or a
 -- refusal with the place of the bad number's first byte, whether its bytes are bad or what they spell
 unfoldable pub reading : Form → List ℕ → ℕ → ℕ → Reading
-reading (whole e) s last at = Read e at
-reading (bad code) s last at = Refused code last
-reading (more f) s last at = after (number_at s at) (λ v next. reading (f v) s at next) (λ code. Refused code at)
+reading (whole e) s last at = Ok (Some (e, at))
+reading (bad why) s last at = Err (refusal_at why last)
+reading (more f) s last at = after (number_at s at) (λ v next. reading (f v) s at next) (λ why. Err (refusal_at (Number why) at))
 
 -- a tape that ends between events is at its end
 unfoldable pub event_at : List ℕ → ℕ → Reading
-event_at s at = cond (ltb at (length s)) (reading event s at at) End
+event_at s at = cond (ltb at (length s)) (reading event s at at) (Ok None)
 
 -- the numbers that are read from a place on, up to the end of the event or to the refusal
 unfoldable pub numbers_at : Form → List ℕ → ℕ → List ℕ
 numbers_at (whole e) s at = []
-numbers_at (bad code) s at = []
-numbers_at (more f) s at = after (number_at s at) (λ v next. v ∷ numbers_at (f v) s next) (λ code. [])
+numbers_at (bad why) s at = []
+numbers_at (more f) s at = after (number_at s at) (λ v next. v ∷ numbers_at (f v) s next) (λ why. [])
 
 -- of an event's numbers those of its entries: what a submit has after its event number, tenant and count
 unfoldable pub entries_of : List ℕ → List ℕ

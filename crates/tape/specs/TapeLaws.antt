@@ -1,74 +1,87 @@
 -- Where an event ends, and what of a tape it depends on: the bytes of the longest event from its place on are enough,
 -- and bytes before it move its place alone. So a program may read a tape of any length through a buffer.
-use Rattle.std.specs.Prelude.{◌≡◌, refl, ◌⊎◌, List, [], ◌∷◌, ◌++◌, ℕ, zero, suc, ◌+◌, ◌*◌, ◌≤◌, ◌<◌, length}
+use Rattle.std.specs.Prelude.{◌≡◌, refl, ◌⊎◌, List, [], ◌∷◌, ◌++◌, ℕ, zero, suc, ◌+◌, ◌*◌, ◌≤◌, ◌<◌, length, Some, None, Ok, Err}
 use Rattle.std.proofs.Common.{sym, ap, ◌∙◌, inl, inr, ⊎_elim, append-nil, arith, lt-ltb, le-ltb, length-append}
-use Rattle.numeral.specs.declared.Number.TheVariants as number
-use Rattle.numeral.specs.Number.{groups, number_at}
+use Rattle.numeral.specs.declared.Refusal as number
+use Rattle.numeral.specs.declared.Refusal.TheVariants.{CutShort}
+use Rattle.numeral.specs.Number.{Number as Numeral, groups, number_at}
 use Rattle.numeral.specs.Cases.{below}
 use Rattle.numeral.specs.Cases as number_cases
 use Rattle.numeral.specs.Laws as number_laws
 use Rattle.numeral.specs.Window as number_window
 use Rattle.numeral.specs.Window.{answer, is_read, is_refused, longest}
 use Rattle.tape.specs.declared.Event.{Event}
-use Rattle.tape.specs.declared.Reading.{Reading}
-use Rattle.tape.specs.declared.Reading.TheVariants.{Read, Refused, End}
-use Rattle.tape.specs.Tape.{Form, whole, bad, more, form_of, event, reading, numbers_at, event_at, entries_of, stored, entries_after}
+use Rattle.tape.specs.declared.Refusal.{Refusal}
+use Rattle.tape.specs.declared.Refused.{Refused}
+use Rattle.tape.specs.declared.Refusal.TheVariants.{Number}
+use Rattle.tape.specs.Tape.{Reading, refusal_at, Form, whole, bad, more, form_of, event, reading, numbers_at, event_at, entries_of, stored, entries_after}
 use Rattle.tape.specs.Depth.{Within, more_within, most_behind, most_numbers, most_bytes, form_within, event_within}
 
 -- no answer is of two kinds
-pub refused_read : (code place : ℕ) (e : Event) (end : ℕ) → Refused code place ≡ Read e end → ⊥
-refused_read code place e end q = let z : ◌≡◌ {A = ℕ} 0 1 = cc in omega arith
+pub refused_read : (why : Refusal) (place : ℕ) (e : Event) (end : ℕ) → ◌≡◌ {A = Reading} (Err (refusal_at why place)) (Ok (Some (e, end))) → ⊥
+refused_read why place e end q = cc
 
-pub end_read : (e : Event) (end : ℕ) → End ≡ Read e end → ⊥
-end_read e end q = let z : ◌≡◌ {A = ℕ} 0 1 = cc in omega arith
+pub end_read : (e : Event) (end : ℕ) → ◌≡◌ {A = Reading} (Ok None) (Ok (Some (e, end))) → ⊥
+end_read e end q = cc
 
-pub end_refused : (code place : ℕ) → End ≡ Refused code place → ⊥
-end_refused code place q = let z : ◌≡◌ {A = ℕ} 0 1 = cc in omega arith
+pub end_refused : (why : Refusal) (place : ℕ) → ◌≡◌ {A = Reading} (Ok None) (Err (refusal_at why place)) → ⊥
+end_refused why place q = cc
+
+-- and two of one kind are the same if their parts are
+pub event_same : {e f : Event} {end last : ℕ} → ◌≡◌ {A = Reading} (Ok (Some (e, end))) (Ok (Some (f, last))) → (e ≡ f) × (end ≡ last)
+event_same {e} {f} {end} {last} q =
+    let p : ◌≡◌ {A = Event × ℕ} (e, end) (f, last) = cc in
+    (ap (λ (x : Event × ℕ). x.0) p, ap (λ (x : Event × ℕ). x.1) p)
+
+pub refusal_same : {why other : Refusal} {place p : ℕ} → ◌≡◌ {A = Reading} (Err (refusal_at why place)) (Err (refusal_at other p)) → (why ≡ other) × (place ≡ p)
+refusal_same {why} {other} {place} {p} q =
+    let r : refusal_at why place ≡ refusal_at other p = cc in
+    (ap (λ (x : Refused). x.why) r, ap (λ (x : Refused). x.place) r)
 
 pub on_tape : (s : List ℕ) (at : ℕ) → at < length s → event_at s at ≡ reading event s at at
 unfolding event_at
 on_tape s at h = rw (lt-ltb at (length s) h)
 
-pub past_tape : (s : List ℕ) (at : ℕ) → length s ≤ at → event_at s at ≡ End
+pub past_tape : (s : List ℕ) (at : ℕ) → length s ≤ at → event_at s at ≡ Ok None
 unfolding event_at
 past_tape s at h = rw (le-ltb at (length s) h)
 
 -- and nowhere else is it at its end
-never_end : (form : Form) (s : List ℕ) (last at : ℕ) → reading form s last at ≡ End → ⊥
+never_end : (form : Form) (s : List ℕ) (last at : ℕ) → reading form s last at ≡ Ok None → ⊥
 unfolding reading
 never_end (whole e) s last at q = end_read e at (sym q)
-never_end (bad code) s last at q = end_refused code last (sym q)
+never_end (bad why) s last at q = end_refused why last (sym q)
 never_end (more f) s last at q =
     elim (answer (number_at s at)) [
       | is_read v next p ↦ never_end (f v) s at next (rw p at q)
-      | is_refused code p ↦ end_refused code at (sym (rw p at q))
+      | is_refused why p ↦ end_refused (Number why) at (sym (rw p at q))
     ]
 
-pub tape_ends : (s : List ℕ) (at : ℕ) → event_at s at ≡ End → length s ≤ at
+pub tape_ends : (s : List ℕ) (at : ℕ) → event_at s at ≡ Ok None → length s ≤ at
 tape_ends s at q = ⊎_elim (λ h. absurd (never_end event s at at (sym (on_tape s at h) ∙ q))) (λ h. h) (below at (length s))
 
 -- an event is read of the form, on the tape
-pub of_form : (s : List ℕ) (at : ℕ) (e : Event) (end : ℕ) → event_at s at ≡ Read e end → reading event s at at ≡ Read e end
+pub of_form : (s : List ℕ) (at : ℕ) (e : Event) (end : ℕ) → event_at s at ≡ Ok (Some (e, end)) → reading event s at at ≡ Ok (Some (e, end))
 of_form s at e end q =
     ⊎_elim
     (λ h. sym (on_tape s at h) ∙ q)
     (λ h. absurd (end_read e end (sym (past_tape s at h) ∙ q)))
     (below at (length s))
 
-pub event_of_form : (s : List ℕ) (at : ℕ) (e : Event) (end : ℕ) → reading event s at at ≡ Read e end → event_at s at ≡ Read e end
+pub event_of_form : (s : List ℕ) (at : ℕ) (e : Event) (end : ℕ) → reading event s at at ≡ Ok (Some (e, end)) → event_at s at ≡ Ok (Some (e, end))
 unfolding reading event
 event_of_form s at e end q =
     ⊎_elim
     (λ h. on_tape s at h ∙ q)
-    (λ h. absurd (refused_read 30 at e end (rw (number_window.missing s at h) at q)))
+    (λ h. absurd (refused_read (Number CutShort) at e end (rw (number_window.missing s at h) at q)))
     (below at (length s))
 
 place_in :
-    (n : ℕ) (form : Form) (s : List ℕ) (last at : ℕ) (e : Event) (end : ℕ) → Within n form → reading form s last at ≡ Read e end →
+    (n : ℕ) (form : Form) (s : List ℕ) (last at : ℕ) (e : Event) (end : ℕ) → Within n form → reading form s last at ≡ Ok (Some (e, end)) →
     (at ≤ end) × (end ≤ at + groups * n) × (at ≤ length s → end ≤ length s)
 unfolding reading
-place_in n (whole _) s last at e end w q = let p : at ≡ end = cc in (omega arith, omega arith, λ h. omega arith)
-place_in n (bad code) s last at e end w q = absurd (refused_read code last e end q)
+place_in n (whole _) s last at e end w q = let p : at ≡ end = (event_same q).1 in (omega arith, omega arith, λ h. omega arith)
+place_in n (bad why) s last at e end w q = absurd (refused_read why last e end q)
 place_in zero (more f) s last at e end w q = elim w [ ]
 place_in (suc n) (more f) s last at e end (more_within w) q =
     elim (answer (number_at s at)) [
@@ -77,11 +90,11 @@ place_in (suc n) (more f) s last at e end (more_within w) q =
           let l = longest s at v next p in
           let m = number_laws.place s at v next p in
           (omega (arith, i.0, m.0), omega (arith, i.1), λ h. i.2 m.1))
-      | is_refused code p ↦ absurd (refused_read code at e end (rw p at q))
+      | is_refused why p ↦ absurd (refused_read (Number why) at e end (rw p at q))
     ]
 
 -- an event ends past its start and on the tape, and not past the bytes of the longest event
-pub place : (s : List ℕ) (at : ℕ) (e : Event) (end : ℕ) → event_at s at ≡ Read e end → (at < end) × (end ≤ length s) × (end ≤ at + most_bytes)
+pub place : (s : List ℕ) (at : ℕ) (e : Event) (end : ℕ) → event_at s at ≡ Ok (Some (e, end)) → (at < end) × (end ≤ length s) × (end ≤ at + most_bytes)
 unfolding reading event
 place s at e end q =
     let f = of_form s at e end q in
@@ -90,29 +103,29 @@ place s at e end q =
           (let i = place_in most_behind (form_of v) s at next e end (form_within v) (rw p at f) in
           let m = number_laws.place s at v next p in
           (omega (arith, i.0, m.0), i.2 m.1, omega (arith, i.1, longest s at v next p)))
-      | is_refused code p ↦ absurd (refused_read code at e end (rw p at f))
+      | is_refused why p ↦ absurd (refused_read (Number why) at e end (rw p at f))
     ]
 
 -- bytes behind an event change nothing, unless it was cut short
 on_in :
-    (form : Form) (s rest : List ℕ) (last at : ℕ) → ((p : ℕ) → reading form s last at ≡ Refused 30 p → ⊥) →
+    (form : Form) (s rest : List ℕ) (last at : ℕ) → ((p : ℕ) → reading form s last at ≡ Err (refusal_at (Number CutShort) p) → ⊥) →
     (reading form (s ++ rest) last at ≡ reading form s last at) × (numbers_at form (s ++ rest) at ≡ numbers_at form s at)
 unfolding reading numbers_at
 on_in (whole e) s rest last at n = (refl, refl)
-on_in (bad code) s rest last at n = (refl, refl)
+on_in (bad why) s rest last at n = (refl, refl)
 on_in (more f) s rest last at n =
     elim (answer (number_at s at)) [
       | is_read v next p ↦
           (let same = number_window.goes_on s rest at (λ q. read_not_refused (sym p ∙ q)) ∙ p in
           let i = on_in (f v) s rest at next (λ b q. n b (rw p q)) in
           (rw (same, p) i.0, rw (same, p) (ap (λ (vs : List ℕ). v ∷ vs) i.1)))
-      | is_refused code p ↦
+      | is_refused why p ↦
           (let same = number_window.goes_on s rest at (λ q. n at (rw q)) ∙ p in
           (rw (same, p), rw (same, p)))
     ]
   where
-    read_not_refused : {v next code : ℕ} → number.Read v next ≡ number.Refused code → ⊥
-    read_not_refused {v} {next} {code} q = number_cases.refused_read code v next (sym q)
+    read_not_refused : {v next : ℕ} {why : number.Refusal} → ◌≡◌ {A = Numeral} (Ok (v, next)) (Err why) → ⊥
+    read_not_refused {v} {next} {why} q = number_cases.refused_read why v next (sym q)
 
 -- and neither do they where as many stand from its place on as its form may take
 window_in :
@@ -120,7 +133,7 @@ window_in :
     (reading form (s ++ rest) last at ≡ reading form s last at) × (numbers_at form (s ++ rest) at ≡ numbers_at form s at)
 unfolding reading numbers_at
 window_in n (whole e) s rest last at w h = (refl, refl)
-window_in n (bad code) s rest last at w h = (refl, refl)
+window_in n (bad why) s rest last at w h = (refl, refl)
 window_in zero (more f) s rest last at w h = elim w [ ]
 window_in (suc n) (more f) s rest last at (more_within w) h =
     let same = number_window.goes_on s rest at (number_window.long_enough s at (omega arith)) in
@@ -128,7 +141,7 @@ window_in (suc n) (more f) s rest last at (more_within w) h =
       | is_read v next p ↦
           (let i = window_in n (f v) s rest at next (w v) (omega (arith, longest s at v next p)) in
           (rw (same, p) i.0, rw (same, p) (ap (λ (vs : List ℕ). v ∷ vs) i.1)))
-      | is_refused code p ↦ (rw (same, p), rw (same, p))
+      | is_refused why p ↦ (rw (same, p), rw (same, p))
     ]
 
 -- the same event at the same place, with the same numbers of its entries
@@ -146,7 +159,7 @@ same_at s rest at h e = (
 
 -- more bytes behind change nothing, where the tape neither ended nor was cut short
 pub goes_on :
-    (s rest : List ℕ) (at : ℕ) → (event_at s at ≡ End → ⊥) → ((p : ℕ) → event_at s at ≡ Refused 30 p → ⊥) → SameAt s (s ++ rest) at
+    (s rest : List ℕ) (at : ℕ) → (event_at s at ≡ Ok None → ⊥) → ((p : ℕ) → event_at s at ≡ Err (refusal_at (Number CutShort) p) → ⊥) → SameAt s (s ++ rest) at
 goes_on s rest at n m =
     ⊎_elim
     (λ h. same_at s rest at h (on_in event s rest at at (λ p q. m p (on_tape s at h ∙ q))))
@@ -159,9 +172,9 @@ window s rest at h = same_at s rest at (omega arith) (window_in most_numbers eve
 
 -- what is read behind other bytes
 abbrev pub moved : ℕ → Reading → Reading
-moved by (Read e end) = Read e (by + end)
-moved by (Refused code p) = Refused code (by + p)
-moved by End = End
+moved by (Ok (Some (e, end))) = Ok (Some (e, by + end))
+moved by (Err r) = Err (refusal_at r.why (by + r.place))
+moved by (Ok None) = Ok None
 
 moved_in :
     (form : Form) (front s : List ℕ) (last at : ℕ) →
@@ -169,14 +182,14 @@ moved_in :
     (numbers_at form (front ++ s) (length front + at) ≡ numbers_at form s at)
 unfolding reading numbers_at
 moved_in (whole e) front s last at = (refl, refl)
-moved_in (bad code) front s last at = (refl, refl)
+moved_in (bad why) front s last at = (refl, refl)
 moved_in (more f) front s last at =
     elim (answer (number_at s at)) [
       | is_read v next p ↦
           (let q = number_window.number_moved front s at ∙ ap (number_window.moved (length front)) p in
           let i = moved_in (f v) front s at next in
           (rw (q, p) i.0, rw (q, p) (ap (λ (vs : List ℕ). v ∷ vs) i.1)))
-      | is_refused code p ↦
+      | is_refused why p ↦
           (let q = number_window.number_moved front s at ∙ ap (number_window.moved (length front)) p in
           (rw (q, p), rw (q, p)))
     ]
@@ -212,43 +225,42 @@ buffered front buffer rest at enough =
 -- the place of a refusal is that of a number of the event, or the tape's length where the number is missing altogether,
 -- by 30
 refused_in :
-    (form : Form) (s : List ℕ) (last at code p : ℕ) → last < at → at ≤ length s → reading form s last at ≡ Refused code p →
-    (last ≤ p) × (p ≤ length s) × (p ≡ length s → code ≡ 30)
+    (form : Form) (s : List ℕ) (last at : ℕ) (why : Refusal) (p : ℕ) → last < at → at ≤ length s → reading form s last at ≡ Err (refusal_at why p) →
+    (last ≤ p) × (p ≤ length s) × (p ≡ length s → why ≡ Number CutShort)
 unfolding reading
-refused_in (whole e) s last at code p l h q = absurd (refused_read code p e at (sym q))
-refused_in (bad k) s last at code p l h q = let z : last ≡ p = cc in (omega arith, omega arith, λ m. omega arith)
-refused_in (more f) s last at code p l h q =
+refused_in (whole e) s last at why p l h q = absurd (refused_read why p e at (sym q))
+refused_in (bad k) s last at why p l h q = let z = (refusal_same q).1 in (omega (arith, z), omega (arith, z), λ m. absurd (omega (arith, z)))
+refused_in (more f) s last at why p l h q =
     elim (answer (number_at s at)) [
       | is_read v next r ↦
           (let m = number_laws.place s at v next r in
-          let i = refused_in (f v) s at next code p m.0 m.1 (rw r at q) in
+          let i = refused_in (f v) s at next why p m.0 m.1 (rw r at q) in
           (omega (arith, i.0), i.1, i.2))
       | is_refused k r ↦
-          (let q' : Refused k at ≡ Refused code p = rw r at q in
-          let z : at ≡ p = cc in
-          let c : k ≡ code = cc in
-          (omega arith, omega arith, λ m. sym c ∙ short k (sym r ∙ number_window.missing s at (omega arith))))
+          (let same = refusal_same (rw r at q) in
+          (omega (arith, same.1), omega (arith, same.1), λ m. sym same.0 ∙ ap Number (short k (sym r ∙ number_window.missing s at (omega (arith, same.1))))))
     ]
   where
-    short : (k : ℕ) → number.Refused k ≡ number.Refused 30 → k ≡ 30
+    short : (k : number.Refusal) → ◌≡◌ {A = Numeral} (Err k) (Err CutShort) → k ≡ CutShort
     short k e = cc
 
 pub refused_place :
-    (s : List ℕ) (at code p : ℕ) → event_at s at ≡ Refused code p → (at ≤ p) × ((p < length s) ⊎ ((p ≡ length s) × (code ≡ 30)))
+    (s : List ℕ) (at : ℕ) (why : Refusal) (p : ℕ) → event_at s at ≡ Err (refusal_at why p) →
+    (at ≤ p) × ((p < length s) ⊎ ((p ≡ length s) × (why ≡ Number CutShort)))
 unfolding reading event
-refused_place s at code p q =
+refused_place s at why p q =
     ⊎_elim
     (λ h.
     let f = sym (on_tape s at h) ∙ q in
     elim (answer (number_at s at)) [
       | is_read v next r ↦
           (let m = number_laws.place s at v next r in
-          let i = refused_in (form_of v) s at next code p m.0 m.1 (rw r at f) in
+          let i = refused_in (form_of v) s at next why p m.0 m.1 (rw r at f) in
           (i.0, by_place i.1 i.2))
-      | is_refused k r ↦ (let q' : Refused k at ≡ Refused code p = rw r at f in let z : at ≡ p = cc in (omega arith, inl (omega arith)))
+      | is_refused k r ↦ (let same = refusal_same (rw r at f) in (omega (arith, same.1), inl (omega (arith, same.1))))
     ])
-    (λ h. absurd (end_refused code p (sym (past_tape s at h) ∙ q)))
+    (λ h. absurd (end_refused why p (sym (past_tape s at h) ∙ q)))
     (below at (length s))
   where
-    by_place : p ≤ length s → (p ≡ length s → code ≡ 30) → (p < length s) ⊎ ((p ≡ length s) × (code ≡ 30))
+    by_place : p ≤ length s → (p ≡ length s → why ≡ Number CutShort) → (p < length s) ⊎ ((p ≡ length s) × (why ≡ Number CutShort))
     by_place h f = ⊎_elim inl (λ l. let e : p ≡ length s = omega arith in inr (e, f e)) (below p (length s))

@@ -1,9 +1,8 @@
 -- A whole tape: the events that it holds in their order, each with the numbers of its entries, and how it ends.
-use Rattle.std.specs.Prelude.{List, [], ◌∷◌, ℕ, zero, suc, ◌-◌, length}
+use Rattle.std.specs.Prelude.{List, [], ◌∷◌, ℕ, zero, suc, ◌-◌, length, Some, None, Ok, Err}
 use Rattle.tape.specs.declared.Event.{Event}
-use Rattle.tape.specs.declared.Reading.{Reading}
-use Rattle.tape.specs.declared.Reading.TheVariants.{Read, Refused, End}
-use Rattle.tape.specs.Tape.{event_at, entries_at}
+use Rattle.tape.specs.Refusal.{refusal_number}
+use Rattle.tape.specs.Tape.{Reading, event_at, entries_at}
 
 -- an event of a tape, with the numbers of its entries, which a submit alone has
 pub record Sent : Type 0 where
@@ -32,9 +31,9 @@ x before w = record { events = x ∷ w.events; ending = w.ending }
 -- by what is read at a place: an event comes before what the tape holds from its end on; a refused tape stops, and the
 -- unfinished event is none of its events
 abbrev pub read_by : List ℕ → (ℕ → Whole) → Reading → Whole
-read_by numbers from (Read e end) = record { event = e; numbers = numbers } before from end
-read_by numbers from (Refused code place) = nothing_but (refused code place)
-read_by numbers from End = nothing_but ended
+read_by numbers from (Ok (Some (e, end))) = record { event = e; numbers = numbers } before from end
+read_by numbers from (Err r) = nothing_but (refused (refusal_number r.why) r.place)
+read_by numbers from (Ok None) = nothing_but ended
 
 -- what the tape holds from a place on, at most n events
 unfoldable pub read_most : ℕ → List ℕ → ℕ → Whole

@@ -1,23 +1,21 @@
 -- A whole tape by its events, one after the other.
-use Rattle.std.specs.Prelude.{◌≡◌, refl, List, ℕ, zero, suc, ◌-◌, ◌≤◌, length}
+use Rattle.std.specs.Prelude.{◌≡◌, refl, List, ℕ, zero, suc, ◌-◌, ◌≤◌, length, Some, None, Ok, Err}
 use Rattle.std.proofs.Common.{◌∙◌, arith}
 use Rattle.tape.specs.declared.Event.{Event}
-use Rattle.tape.specs.declared.Reading.{Reading}
-use Rattle.tape.specs.declared.Reading.TheVariants.{Read, Refused, End}
-use Rattle.tape.specs.Tape.{event_at, entries_at}
+use Rattle.tape.specs.Tape.{Reading, event_at, entries_at}
 use Rattle.tape.specs.TapeLaws.{past_tape, place}
 use Rattle.tape.specs.Whole.{Whole, read_by, read_most, read_from}
 
 -- only the end of an event matters to what follows it
 then_same :
-    (s : List ℕ) (at : ℕ) (f g : ℕ → Whole) → ((e : Event) (end : ℕ) → event_at s at ≡ Read e end → f end ≡ g end) →
+    (s : List ℕ) (at : ℕ) (f g : ℕ → Whole) → ((e : Event) (end : ℕ) → event_at s at ≡ Ok (Some (e, end)) → f end ≡ g end) →
     read_by (entries_at s at) f (event_at s at) ≡ read_by (entries_at s at) g (event_at s at)
 then_same s at f g same = go (event_at s at) refl
   where
     go : (x : Reading) → event_at s at ≡ x → read_by (entries_at s at) f x ≡ read_by (entries_at s at) g x
-    go (Read e end) q = rw (same e end q)
-    go (Refused code p) q = refl
-    go End q = refl
+    go (Ok (Some (e, end))) q = rw (same e end q)
+    go (Err r) q = refl
+    go (Ok None) q = refl
 
 -- more events than bytes are never read
 read_enough : (n k : ℕ) (s : List ℕ) (at : ℕ) → length s - at ≤ n → length s - at ≤ k → read_most n s at ≡ read_most k s at

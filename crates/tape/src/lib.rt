@@ -2,6 +2,9 @@
 // cannot be read.
 #![tactic(auto)]
 
+ghost use Rattle.std.specs.Prelude.{◌≡◌};
+ghost use Rattle.tape.specs.Refusal.{refusal_number};
+
 use entry::{Away, BULK_NUMBERS, Settings};
 use numeral::GROUPS;
 
@@ -27,11 +30,30 @@ pub enum Event {
     Open,
 }
 
-// An event with the place after its last number, or a refusal with the place of the bad number, or the tape's end
-// between two events.
-#[derive(Clone, Copy)]
-pub enum Reading {
-    Read(Event, usize),
-    Refused(u32, usize),
-    End,
+// Why an event cannot be read: there is no number, the event number is another, or a submit's count is not 1 to 20.
+#[derive(Clone, Copy, PartialEq, Eq)]
+pub enum Refusal {
+    Number(numeral::Refusal),
+    NoSuchEvent,
+    NoSuchCount,
+}
+
+impl Refusal {
+    // The number that a tape's reader is told: 30 to 34.
+    pub fn number(self) -> u32
+        ensures { result ≡ refusal_number self }
+    {
+        match self {
+            Refusal::Number(why) => why.number(),
+            Refusal::NoSuchEvent => 33,
+            Refusal::NoSuchCount => 34,
+        }
+    }
+}
+
+// A refusal, with the place of the bad number's first byte.
+#[derive(Clone, Copy, PartialEq, Eq)]
+pub struct Refused {
+    pub why: Refusal,
+    pub place: usize,
 }

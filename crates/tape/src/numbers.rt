@@ -12,14 +12,12 @@ use entry::{ENTRY_NUMBERS, Settings};
 fn store(numbers: &[u32], out: &mut [u32], at: usize)
     ensures { out.new ≡ sets out.old at numbers.now }
 {
-    let mut i = 0usize;
     let mut to = at;
-    while i < numbers.len() {
+    for &v in numbers {
         if out.len() <= to {
             return;
         }
-        out[to] = numbers[i];
-        i += 1;
+        out[to] = v;
         to += 1;
     }
 }
@@ -82,10 +80,7 @@ pub fn entries_in(e: Event) -> usize
     ensures { result ≡ entries_in e }
 {
     match e {
-        Event::Settings(_) => 0,
-        Event::Away(_) => 0,
         Event::Submit(_, count) => ENTRY_NUMBERS * count as usize,
-        Event::Turn => 0,
-        Event::Open => 0,
+        _ => 0,
     }
 }

@@ -3,9 +3,8 @@ ghost use Rattle.std.specs.Prelude.{◌≡◌, drop};
 ghost use Rattle.tape.specs.Tape.{submit, event};
 ghost use Rattle.tape.specs.One.{one_event};
 
-use crate::events::{AWAY, AWAY_NUMBERS, OPEN, SETTINGS, SETTINGS_NUMBERS, SUBMIT, TURN};
-use entry::{BULK, ENTRY_NUMBERS};
-use units::words::both;
+use crate::events::{AWAY, AWAY_NUMBERS, OPEN, SETTINGS, SETTINGS_NUMBERS, SUBMIT, TURN, in_bulk};
+use entry::ENTRY_NUMBERS;
 
 // Behind the event number of a submit stand a tenant, a count of 1 to 20 and the numbers of so many entries.
 fn one_submit(numbers: &[u32]) -> bool
@@ -15,18 +14,14 @@ fn one_submit(numbers: &[u32]) -> bool
         return false;
     }
     let count = numbers[2];
-    if both(1 <= count, count <= BULK) {
-        numbers.len() == 3 + ENTRY_NUMBERS * count as usize
-    } else {
-        false
-    }
+    in_bulk(count) && numbers.len() == 3 + ENTRY_NUMBERS * count as usize
 }
 
 // Whether the numbers, the event number first, are those of one event that the reader takes, and no more.
 pub fn one_event(numbers: &[u32]) -> bool
     ensures { result ≡ one_event event numbers.now }
 {
-    if numbers.len() == 0 {
+    if numbers.is_empty() {
         return false;
     }
     let kind = numbers[0];

@@ -1,7 +1,7 @@
 -- A price is on a grid exactly where its step divides it; the highest at or below a price and the lowest from one on;
 -- the lowest step is a price; E4 of the paper, and the turn.
 use mathlib.Core.Logic.Iff
-use Rattle.std.specs.Prelude.{◌≡◌, Bool, cond, ◌↔◌, ltb, eqb}
+use Rattle.std.specs.Prelude.{◌≡◌, Bool, cond, ◌↔◌, ltb, eqb, Option, Some, None}
 use Rattle.std.proofs.Math.Path.{refl}
 use Rattle.std.proofs.Common.{subst, eqb-true, eq-eqb, ltb-true, ltb-false}
 use Rattle.std.proofs.Math.Bool.{true, false}
@@ -14,8 +14,6 @@ use Rattle.units.specs.Tests.{holds_not_fails, order, less, equal, more}
 use Rattle.units.specs.Grid.{stepping, grid_of, lowest_of, step_of, on_grid, highest_on, lowest_on}
 use Rattle.units.specs.declared.Cents.{Cents}
 use Rattle.units.specs.declared.grid.Grid.{Grid}
-use Rattle.units.specs.declared.grid.Chosen.{Chosen}
-use Rattle.units.specs.declared.grid.Chosen.TheVariants.{One, NoSuch}
 
 -- one proof over the step serves every grid
 pub on_divides : (g : Grid) (p : Cents) → (on_grid g p ≡ true) ↔ ((step_of g p).0 ∣ p.0)
@@ -186,21 +184,21 @@ module _ (g : Grid) where
       go (nowhere none) = absurd (none r on h k)
 
 -- the lowest step is 5 cents in grid 3 and one cent in the others
-abbrev LowestIs : ℕ → Chosen → Type 0
-LowestIs number (One g) = (lowest_of g).0 ≡ cond (eqb number 3) 5 1
-LowestIs number NoSuch = Unit {0}
+abbrev LowestIs : ℕ → Option Grid → Type 0
+LowestIs number (Some g) = (lowest_of g).0 ≡ cond (eqb number 3) 5 1
+LowestIs number None = Unit {0}
 
-pub lowest_is : (number : ℕ) (g : Grid) → grid_of number ≡ One g → (lowest_of g).0 ≡ cond (eqb number 3) 5 1
+pub lowest_is : (number : ℕ) (g : Grid) → grid_of number ≡ Some g → (lowest_of g).0 ≡ cond (eqb number 3) 5 1
 lowest_is number g h = subst (LowestIs number) h (by (eqb number 1) (eqb number 2) (eqb number 3) refl refl refl)
   where
     by : (a b c : Bool) → eqb number 1 ≡ a → eqb number 2 ≡ b → eqb number 3 ≡ c
-        → LowestIs number (cond a (One (stepping 1 1)) (cond b (One (stepping 1 5)) (cond c (One (stepping 5 10)) NoSuch)))
+        → LowestIs number (cond a (Some (stepping 1 1)) (cond b (Some (stepping 1 5)) (cond c (Some (stepping 5 10)) None)))
     by true b c x y z = rw (eqb-true number 1 x) refl
     by false true c x y z = rw (eqb-true number 2 y) refl
     by false false true x y z = rw z refl
     by false false false x y z = tt
 
-pub lowest_bounds : (number : ℕ) (g : Grid) → grid_of number ≡ One g → (1 ≤ (lowest_of g).0) × ((lowest_of g).0 ≤ 5)
+pub lowest_bounds : (number : ℕ) (g : Grid) → grid_of number ≡ Some g → (1 ≤ (lowest_of g).0) × ((lowest_of g).0 ≤ 5)
 lowest_bounds number g h = go (eqb number 3) (lowest_is number g h)
   where
     go : (three : Bool) → (lowest_of g).0 ≡ cond three 5 1 → (1 ≤ (lowest_of g).0) × ((lowest_of g).0 ≤ 5)
@@ -211,7 +209,7 @@ lowest_bounds number g h = go (eqb number 3) (lowest_is number g h)
 abbrev pub E4 : Type 0
 E4 =
     (g : Grid)
-    × (grid_of 2 ≡ One g)
+    × (grid_of 2 ≡ Some g)
     × (on_grid g (cents 299) ≡ true)
     × (on_grid g (cents 305) ≡ true)
     × (on_grid g (cents 301) ≡ false)

@@ -12,13 +12,6 @@ pub struct Grid {
     pub high: Cents,
 }
 
-// The grid of a number, or none: only 1, 2 and 3 are grids.
-#[derive(Clone, Copy)]
-pub enum Chosen {
-    One(Grid),
-    NoSuch,
-}
-
 impl Grid {
     // From this price on, in cents, the higher step holds.
     pub const TURN: u32 = 300;
@@ -39,15 +32,15 @@ impl Grid {
         }
     }
 
-    // The grid of a number.
-    pub fn of(number: u32) -> Chosen
+    // The grid of a number, or none: only 1, 2 and 3 are grids.
+    pub fn of(number: u32) -> Option<Grid>
         ensures { result ≡ grid_of number }
     {
         match number {
-            1 => Chosen::One(Grid::stepping(Grid::CENT, Grid::CENT)),
-            2 => Chosen::One(Grid::stepping(Grid::CENT, Grid::NICKEL)),
-            3 => Chosen::One(Grid::stepping(Grid::NICKEL, Grid::DIME)),
-            _ => Chosen::NoSuch,
+            1 => Some(Grid::stepping(Grid::CENT, Grid::CENT)),
+            2 => Some(Grid::stepping(Grid::CENT, Grid::NICKEL)),
+            3 => Some(Grid::stepping(Grid::NICKEL, Grid::DIME)),
+            _ => None,
         }
     }
 
@@ -89,12 +82,10 @@ impl Grid {
     pub fn at_or_below(self, price: Cents) -> Cents
         ensures { result ≡ cents (highest_on self price.0) }
     {
-        let mut p = price.0;
-        while 0 < p {
+        for p in (1..=price.0).rev() {
             if self.on(Cents(p)) {
                 return Cents(p);
             }
-            p -= 1;
         }
         Cents(0)
     }
@@ -104,16 +95,10 @@ impl Grid {
     pub fn at_or_above(self, price: Cents, most: Cents) -> Cents
         ensures { result ≡ cents (lowest_on self (most.0 + 1 - price.0) price.0) }
     {
-        let top = most.0;
-        let mut tried = price.0;
-        while tried <= top {
+        for tried in price.0..=most.0 {
             if self.on(Cents(tried)) {
                 return Cents(tried);
             }
-            if tried == top {
-                return Cents(0);
-            }
-            tried += 1;
         }
         Cents(0)
     }

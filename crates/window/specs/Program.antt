@@ -1,7 +1,8 @@
 -- How a program tells that it has ended, as one byte.
-use Rattle.std.specs.Prelude.{◌≡◌, Bool, true, false, cond, ℕ, ◌-◌, ◌≤◌, ◌<◌, ltb}
-use Rattle.std.proofs.Common.{subst, arith}
-use Rattle.units.specs.Tests.{pick, picked_of_both}
+use Rattle.std.specs.Prelude.{◌≡◌, Bool, true, false, cond, ℕ, ◌-◌, ◌≤◌, ◌<◌}
+use Rattle.std.proofs.Common.{refl, subst, arith}
+use Rattle.window.specs.declared.program.Status.{Status}
+use Rattle.window.specs.declared.program.Status.TheVariants.{Going, Ended, Refused, Failed}
 
 -- it goes on
 abbrev pub going : ℕ
@@ -18,6 +19,13 @@ refused = 49
 -- `2`: a file could not be opened, a read or a write failed
 abbrev pub failed : ℕ
 failed = 50
+
+-- the byte that tells it
+abbrev pub status_byte : Status → ℕ
+status_byte Going = going
+status_byte Ended = ended
+status_byte Refused = refused
+status_byte Failed = failed
 
 -- it has stopped by what it read
 abbrev pub Stopped : ℕ → Type 0
@@ -36,13 +44,33 @@ not_stopped false (low, high) = omega arith
 pub goes_or_failed : (fails : Bool) {status : ℕ} → status ≡ status_after fails → Stopped status → ⊥
 goes_or_failed fails e stop = not_stopped fails (subst Stopped e stop)
 
--- where what it read has stopped by a number, 0 being the end
-unfoldable pub status_of : ℕ → ℕ
-status_of code = pick (ltb 0 code) refused ended
+-- where what it read has ended well or is refused
+unfoldable pub status_of : Bool → ℕ
+status_of well = cond well ended refused
 
-pub stops_status : (code : ℕ) → Stopped (status_of code)
+pub stops_status : (well : Bool) → Stopped (status_of well)
 unfolding status_of
-stops_status code = picked_of_both Stopped (ltb 0 code) refused ended (omega arith) (omega arith)
+stops_status true = (omega arith, omega arith)
+stops_status false = (omega arith, omega arith)
+
+-- each status has a byte of its own
+pub bytes_differ : (s t : Status) → status_byte s ≡ status_byte t → s ≡ t
+bytes_differ Going Going e = refl
+bytes_differ Going Ended e = absurd (omega arith)
+bytes_differ Going Refused e = absurd (omega arith)
+bytes_differ Going Failed e = absurd (omega arith)
+bytes_differ Ended Going e = absurd (omega arith)
+bytes_differ Ended Ended e = refl
+bytes_differ Ended Refused e = absurd (omega arith)
+bytes_differ Ended Failed e = absurd (omega arith)
+bytes_differ Refused Going e = absurd (omega arith)
+bytes_differ Refused Ended e = absurd (omega arith)
+bytes_differ Refused Refused e = refl
+bytes_differ Refused Failed e = absurd (omega arith)
+bytes_differ Failed Going e = absurd (omega arith)
+bytes_differ Failed Ended e = absurd (omega arith)
+bytes_differ Failed Refused e = absurd (omega arith)
+bytes_differ Failed Failed e = refl
 
 -- the word before a refused line has at most so many bytes
 abbrev pub word_most : ℕ

@@ -90,15 +90,14 @@ module _ (was mid ys : List ℕ) (from to base k : ℕ) (h : from ≤ to) (fits 
 
   pub refilled :
       (n j : ℕ) (r : Filled) → n ≤ length (mid_of (to - from) j window) → r.to ≡ to - from + n → r.base ≡ base + from →
-      (r.more ≡ false → n ≡ 0) → (r.failed ≡ true → r.more ≡ false) → Refilled was from to base window r
-  refilled n j r few is first none last = record {
+      (r.more ≡ false → n ≡ 0) → Refilled was from to base window r
+  refilled n j r few is first none = record {
     long = same_len_mid (to - from) k mid ys room ∙ mid_long;
     kept = take_put (to - from) k mid ys (omega (arith, mid_long)) ∙ front;
     least = omega (arith, is);
     most = omega (arith, is, few, length-take j (drop (to - from) window), length-drop (to - from) window, same_len_mid (to - from) k mid ys room, mid_long);
     place = first;
     nothing = λ h. omega (arith, is, none h);
-    last = last;
   }
     where
       front : take (to - from) mid ≡ take (to - from) (drop from was)

@@ -1,7 +1,7 @@
 // The ends of a program: the file that it reads, what it writes out, and how it tells that it has ended. It writes one
 // byte to file descriptor 3, which the command above makes its status.
 ghost use Rattle.std.specs.Prelude.{◌≡◌, ◌≤◌, length};
-ghost use Rattle.window.specs.Program.{Stopped, status_after, status_of, word_most};
+ghost use Rattle.window.specs.Program.{Stopped, status_byte, status_after, status_of, word_most};
 
 use crate::refusal::{LONGEST_BEHIND, refusal_line};
 use crate::writing::write_out;
@@ -13,17 +13,29 @@ use std::rt::{Env, Stdin, Stdout};
 // Where the status goes.
 const STATUS_FILENO: i32 = 3;
 
-// The program goes on.
-pub const GOING: u8 = 0;
+// How a program stands: it goes on; all that was to be done is done; what was read is refused; or a file could not be
+// opened, a read or a write failed.
+#[derive(Clone, Copy, PartialEq, Eq)]
+pub enum Status {
+    Going,
+    Ended,
+    Refused,
+    Failed,
+}
 
-// All that was to be done is done.
-pub const ENDED: u8 = b'0';
-
-// What was read is refused.
-pub const REFUSED: u8 = b'1';
-
-// A file could not be opened, a read or a write failed.
-pub const FAILED: u8 = b'2';
+impl Status {
+    // The byte that tells it.
+    pub fn byte(self) -> u8
+        ensures { result ≡ status_byte self }
+    {
+        match self {
+            Status::Going => 0,
+            Status::Ended => b'0',
+            Status::Refused => b'1',
+            Status::Failed => b'2',
+        }
+    }
+}
 
 // The reader of standard output has left, which is no failure to speak of; it is told before the failed write is.
 const LEFT: u8 = b'3';
@@ -68,10 +80,10 @@ struct Shown {
 impl Write for Shown {
     fn write(&mut self, buf: &[u8]) -> std::io::Result<usize> {
         let got = self.output.write(buf);
-        if let Err(error) = &got {
-            if error.kind() == ErrorKind::BrokenPipe {
-                self.left = true;
-            }
+        if let Err(error) = &got
+            && error.kind() == ErrorKind::BrokenPipe
+        {
+            self.left = true;
         }
         got
     }
@@ -84,45 +96,52 @@ impl Write for Shown {
 // The most bytes of the word before a refused line, with the space behind it.
 const WORD_MOST: usize = 6;
 
-// Tells the status. One byte is taken whole or not at all, so what was interrupted is tried again.
-pub fn tell(status: u8) {
+// Tells one byte. It is taken whole or not at all, so what was interrupted is tried again.
+fn tell_byte(byte: u8) {
     for _ in 0..TELLS {
-        if io::write_all(STATUS_FILENO, &[status]) {
+        if io::write_all(STATUS_FILENO, &[byte]) {
             return;
         }
     }
 }
 
+// Tells the status.
+pub fn tell(status: Status) {
+    tell_byte(status.byte());
+}
+
 // How the program stands after a read or a write.
-pub fn status_after(failed: bool) -> u8
-    ensures { result ≡ status_after failed }
+pub fn status_after(failed: bool) -> Status
+    ensures { status_byte result ≡ status_after failed }
 {
-    if failed { FAILED } else { GOING }
-}
-
-// How it stands where what it read has stopped by a number, 0 being the end.
-pub fn status_of(code: u32) -> u8
-    ensures { result ≡ status_of code }
-{
-    if code > 0 { REFUSED } else { ENDED }
-}
-
-// Tells the refused line, where there is one, on standard error: a word with the space behind it comes first.
-pub fn tell_line(rt: &HostRuntime, what: &[u8], code: u32, line: u64)
-    requires { length what.now ≤ word_most }
-{
-    if code > 0 {
-        let mut told = [0u8; WORD_MOST + LONGEST_BEHIND];
-        let end = refusal_line(what, code, line, &mut told);
-        let mut errors = rt.stderr();
-        write_out(&mut errors, &told[..end]);
+    if failed {
+        Status::Failed
+    } else {
+        Status::Going
     }
 }
 
+// How it stands where what it read has ended well or is refused.
+pub fn status_of(well: bool) -> Status
+    ensures { status_byte result ≡ status_of well }
+{
+    if well { Status::Ended } else { Status::Refused }
+}
+
+// Tells a refused line on standard error: a word with the space behind it comes first.
+pub fn tell_line(rt: &HostRuntime, what: &[u8], code: u32, line: u64)
+    requires { length what.now ≤ word_most }
+{
+    let mut told = [0u8; WORD_MOST + LONGEST_BEHIND];
+    let end = refusal_line(what, code, line, &mut told);
+    let mut errors = rt.stderr();
+    write_out(&mut errors, &told[..end]);
+}
+
 // Writes out the first bytes of the output, up to a place, on standard output.
-pub fn flush(rt: &HostRuntime, out: &[u8], at: usize) -> u8
+pub fn flush(rt: &HostRuntime, out: &[u8], at: usize) -> Status
     requires { at ≤ length out.now }
-    ensures { Stopped result → ⊥ }
+    ensures { Stopped (status_byte result) → ⊥ }
 {
     let mut shown = Shown {
         output: rt.stdout(),
@@ -130,7 +149,7 @@ pub fn flush(rt: &HostRuntime, out: &[u8], at: usize) -> u8
     };
     let done = write_out(&mut shown, &out[..at]);
     if shown.left {
-        tell(LEFT);
+        tell_byte(LEFT);
     }
     status_after(!done)
 }

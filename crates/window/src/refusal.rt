@@ -3,11 +3,11 @@ ghost use Rattle.std.specs.Prelude.{[], ◌∷◌, ◌+◌, ◌≤◌, ◌<◌, 
 ghost use Rattle.units.specs.Decimal.{decimal};
 ghost use Rattle.window.specs.Refusal.{Lays, refusal_line, longest_behind};
 
-const ZERO: u8 = 48;
+const ZERO: u8 = b'0';
 
-const SPACE: u8 = 32;
+const SPACE: u8 = b' ';
 
-const NEWLINE: u8 = 10;
+const NEWLINE: u8 = b'\n';
 
 // The bytes behind its word and the space: ten digits, a space, twenty digits and the newline.
 pub(crate) const LONGEST_BEHIND: usize = 32;
@@ -31,12 +31,9 @@ fn word(out: &mut [u8], bytes: &[u8]) -> usize
     requires { length bytes.now ≤ length out.old }
     ensures { Lays out.old 0 bytes.now result out.new }
 {
-    let mut i: usize = 0;
-    while i < bytes.len() {
-        out[i] = bytes[i];
-        i += 1;
-    }
-    i
+    let end = bytes.len();
+    out[..end].copy_from_slice(bytes);
+    end
 }
 
 // One byte.

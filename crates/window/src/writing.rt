@@ -1,5 +1,5 @@
 // Bytes written to a file until all of them are taken.
-ghost use Rattle.std.specs.Prelude.{◌≡◌, true, false, ◌-◌, ◌≤◌, ◌<◌, length, take, drop};
+ghost use Rattle.std.specs.Prelude.{◌≡◌, true, ◌-◌, ◌≤◌, ◌<◌, IfSome, length, take, drop};
 ghost use Rattle.std.specs.Io.KnownBytes.{Appends};
 ghost use Rattle.window.specs.Writing.{Wrote};
 
@@ -10,44 +10,31 @@ use std::io::Write;
 // than come, since at a million a second they would take four years.
 const INTERRUPTIONS: u64 = 140737488355328;
 
-// What a write left: the place after the bytes that are taken, how many more interruptions are borne, and whether the
-// write failed.
+// What a write left: the place after the bytes that are taken, and how many more interruptions are borne.
 #[derive(Clone, Copy)]
 struct Written {
     to: usize,
     borne: u64,
-    failed: bool,
 }
 
-// One write of the bytes from a place on. One that takes none has failed, unless a signal interrupted it.
-fn write_some<W: Write>(writer: &mut W, bytes: &[u8], from: usize, borne: u64) -> Written
+// One write of the bytes from a place on, or none where it failed. One that takes no byte has failed, unless a signal
+// interrupted it.
+fn write_some<W: Write>(writer: &mut W, bytes: &[u8], from: usize, borne: u64) -> Option<Written>
     requires { from < length bytes.now }
-    ensures wrote { Wrote (length bytes.now) from borne result }
-    ensures bytes { result.failed ≡ false → Appends (W.contents writer.old) (W.contents writer.new)
-        (take (result.to - from) (drop from bytes.now)) }
-    ensures onward { from ≤ result.to }
+    ensures wrote { IfSome result (Wrote (length bytes.now) from borne) }
+    ensures bytes { IfSome result (λ written. Appends (W.contents writer.old) (W.contents writer.new)
+        (take (written.to - from) (drop from bytes.now))) }
 {
-    let got = writer.write(&bytes[from..]);
-    match got {
-        Ok(n) => Written {
+    match writer.write(&bytes[from..]) {
+        Ok(n) if n > 0 => Some(Written {
             to: from + n,
             borne: borne,
-            failed: n == 0,
-        },
-        Err(error) => {
-            if borne > 0 && interrupted(&error) {
-                return Written {
-                    to: from,
-                    borne: borne - 1,
-                    failed: false,
-                };
-            }
-            Written {
-                to: from,
-                borne: borne,
-                failed: true,
-            }
-        }
+        }),
+        Err(error) if borne > 0 && interrupted(&error) => Some(Written {
+            to: from,
+            borne: borne - 1,
+        }),
+        _ => None,
     }
 }
 
@@ -60,10 +47,9 @@ pub fn write_out<W: Write>(writer: &mut W, bytes: &[u8]) -> bool
     let mut at: usize = 0;
     let mut borne = INTERRUPTIONS;
     while at < bytes.len() {
-        let written = write_some(writer, bytes, at, borne);
-        if written.failed {
+        let Some(written) = write_some(writer, bytes, at, borne) else {
             return false;
-        }
+        };
         at = written.to;
         borne = written.borne;
     }

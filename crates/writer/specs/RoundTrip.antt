@@ -1,9 +1,10 @@
 -- What the writer is for: what was written reads back, what was read is written back, and each refusal is given exactly
 -- in its case. The proofs stand in RoundTripProof.
-use Rattle.std.specs.Prelude.{◌≡◌, ◌↔◌, List, ◌++◌, ℕ, ◌+◌, ◌-◌, ◌≤◌, ◌<◌, length, take, drop}
+use Rattle.std.specs.Prelude.{◌≡◌, ◌↔◌, List, ◌++◌, ℕ, ◌+◌, ◌-◌, ◌≤◌, ◌<◌, length, take, drop, Some, Ok, Err}
 use Rattle.numeral.specs.Laws.{Bytes}
 use Rattle.tape.specs.declared.Event.{Event}
-use Rattle.tape.specs.declared.Reading.TheVariants.{Read, Refused}
+use Rattle.tape.specs.declared.Refused.{Refused}
+use Rattle.tape.specs.Refusal.{refusal_number as number_of}
 use Rattle.tape.specs.Tape.{event_at, entries_at, entries_of}
 use Rattle.tape.specs.Depth.{most_bytes}
 use Rattle.tape.specs.Leads.{encode_all, Fit}
@@ -15,7 +16,11 @@ use Rattle.writer.specs.Rewriting.{rewritten_after}
 
 -- the reader takes numbers: given their bytes, it reads one event, which ends where they end
 abbrev pub Taken : List ℕ → Type 0
-Taken vs = (e : Event) × (event_at (encode_all vs) 0 ≡ Read e (length (encode_all vs)))
+Taken vs = (e : Event) × (event_at (encode_all vs) 0 ≡ Ok (Some (e, length (encode_all vs))))
+
+-- the event at a place is refused by a number, with the place of the bad number
+abbrev pub RefusedBy : List ℕ → ℕ → ℕ → ℕ → Type 0
+RefusedBy s q code p = (r : Refused) × (event_at s q ≡ Err r) × (number_of r.why ≡ code) × (r.place ≡ p)
 
 pub record RoundTrip : Type 0 where
   -- 41 exactly for numbers that are not one event; 40 exactly for an event whose length exceeds the room
@@ -32,23 +37,23 @@ pub record RoundTrip : Type 0 where
   -- what was written reads back as the same event, wherever it stands and whatever stands behind
   pub reads_back :
       (front vs rest : List ℕ) (e : Event) → Fit vs → Spells vs e →
-      (event_at (front ++ (encode_all vs ++ rest)) (length front) ≡ Read e (length front + length (encode_all vs))) ×
+      (event_at (front ++ (encode_all vs ++ rest)) (length front) ≡ Ok (Some (e, length front + length (encode_all vs)))) ×
       (entries_at (front ++ (encode_all vs ++ rest)) (length front) ≡ entries_of vs)
   -- a list of events written one behind the other reads back as that list, to the end
   pub tape_reads_back : (all : List (List ℕ)) → Events all → (events_of (read_all (tape_of all)) ≡ all) × ((read_all (tape_of all)).ending ≡ ended)
   -- what was read is written back as the same bytes: those from its place to its end
   pub writes_back :
-      (s : List ℕ) (at : ℕ) (e : Event) (end : ℕ) → Bytes s → event_at s at ≡ Read e end →
+      (s : List ℕ) (at : ℕ) (e : Event) (end : ℕ) → Bytes s → event_at s at ≡ Ok (Some (e, end)) →
       encode_all (numbers_of e (entries_at s at)) ≡ take (end - at) (drop at s)
   -- and so `rewrite` leaves them, with room for the longest event
   pub rewrites :
-      (s : List ℕ) (at : ℕ) (e : Event) (end : ℕ) (out : List ℕ) → Bytes s → event_at s at ≡ Read e end → most_bytes ≤ length out →
+      (s : List ℕ) (at : ℕ) (e : Event) (end : ℕ) (out : List ℕ) → Bytes s → event_at s at ≡ Ok (Some (e, end)) → most_bytes ≤ length out →
       rewritten_after s at out ≡ take (end - at) (drop at s) ++ drop (end - at) out
   -- so are all events of a tape that is read to its end,
   pub tape_writes_back : (s : List ℕ) → Bytes s → (read_all s).ending ≡ ended → tape_of (events_of (read_all s)) ≡ s
   -- and of a refused one those before the event that is refused, at the place q
   pub front_writes_back :
       (s : List ℕ) (code p : ℕ) → Bytes s → (read_all s).ending ≡ refused code p →
-      (q : ℕ) × (event_at s q ≡ Refused code p) × (tape_of (events_of (read_all s)) ≡ take q s)
+      (q : ℕ) × RefusedBy s q code p × (tape_of (events_of (read_all s)) ≡ take q s)
   -- and none of them is refused as no event
   pub events_are : (s : List ℕ) → Bytes s → Events (events_of (read_all s))

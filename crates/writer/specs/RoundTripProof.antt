@@ -1,5 +1,5 @@
 -- The proofs of RoundTrip.
-use Rattle.std.specs.Prelude.{◌≡◌, refl, Bool, true, false, ◌↔◌, take, drop}
+use Rattle.std.specs.Prelude.{◌≡◌, refl, Bool, true, false, ◌↔◌, take, drop, Some, None, Ok, Err}
 use Rattle.std.proofs.Math.Path.{sym}
 use Rattle.std.proofs.Common.{ap, ap₂, ◌∙◌, subst, ⊎_elim, zero-add, arith, length-append, length-drop, take-add, take_all, length-take-le, lt-ltb, le-ltb}
 use mathlib.Core.List.{List, [], ◌∷◌, ◌++◌, append_assoc, append-nil}
@@ -9,9 +9,9 @@ use Rattle.units.specs.Tests.{is_not, pick, pick_yes, pick_no, holds_not_fails}
 use Rattle.numeral.specs.Cases.{below}
 use Rattle.numeral.specs.Laws.{Bytes}
 use Rattle.tape.specs.declared.Event.{Event}
-use Rattle.tape.specs.declared.Reading.{Reading}
-use Rattle.tape.specs.declared.Reading.TheVariants.{Read, Refused, End}
-use Rattle.tape.specs.Tape.{event, event_at, numbers_at, entries_at, entries_of}
+use Rattle.tape.specs.declared.Refused.{Refused}
+use Rattle.tape.specs.Refusal.{refusal_number as number_of}
+use Rattle.tape.specs.Tape.{Reading, event, event_at, numbers_at, entries_at, entries_of}
 use Rattle.tape.specs.TapeLaws.{past_tape, tape_ends, place}
 use Rattle.tape.specs.Several.{stored_front}
 use Rattle.tape.specs.Depth.{most_bytes}
@@ -24,7 +24,7 @@ use Rattle.writer.specs.Write.{write_refusal, buffer_after}
 use Rattle.writer.specs.WriteLaws.{event_says, never_short}
 use Rattle.writer.specs.Tapes.{IsEvent, Events, tape_of, events_of}
 use Rattle.writer.specs.Rewriting.{rewritten_after}
-use Rattle.writer.specs.RoundTrip.{Taken, RoundTrip}
+use Rattle.writer.specs.RoundTrip.{Taken, RefusedBy, RoundTrip}
 
 -- numbers that are no event, an event too long for the room, and one that has room
 data Outcome (vs : List ℕ) (room : ℕ) : Type 0 where
@@ -97,7 +97,7 @@ reads_from front (vs ∷ all) ((fit, (e, is)), every) =
 -- where a tape stops: at its end, or before the event that is refused
 data StopsAt (s : List ℕ) (q : ℕ) : Ending → Type 0 where
   at_end : q ≡ length s → StopsAt s q ended
-  at_refusal : {code p : ℕ} → event_at s q ≡ Refused code p → StopsAt s q (refused code p)
+  at_refusal : {r : Refused} → event_at s q ≡ Err r → StopsAt s q (refused (number_of r.why) r.place)
 
 -- the events of a tape from a place on, written, are its bytes from there to where it stops
 record WritesFrom (s : List ℕ) (at : ℕ) (w : Whole) : Type 0 where
@@ -111,13 +111,13 @@ module _ (s : List ℕ) (b : Bytes s) where
   Holds at w = WritesFrom s at w × Events (events_of w)
 
   -- one event, by its numbers as they were read
-  spelt_by : (at : ℕ) (e : Event) (end : ℕ) → event_at s at ≡ Read e end → Fit (numbers_of e (entries_at s at)) × IsEvent (numbers_of e (entries_at s at))
+  spelt_by : (at : ℕ) (e : Event) (end : ℕ) → event_at s at ≡ Ok (Some (e, end)) → Fit (numbers_of e (entries_at s at)) × IsEvent (numbers_of e (entries_at s at))
   spelt_by at e end p =
       let is = (spelt s at e end b p).0 in
       rw (← one_spelling (numbers_at event s at) e is) (read_fit s at, (e, is))
 
   -- the bytes up to its end are those up to its place, and its own
-  up_to : (at : ℕ) (e : Event) (end : ℕ) → event_at s at ≡ Read e end → take at s ++ encode_all (numbers_of e (entries_at s at)) ≡ take end s
+  up_to : (at : ℕ) (e : Event) (end : ℕ) → event_at s at ≡ Ok (Some (e, end)) → take at s ++ encode_all (numbers_of e (entries_at s at)) ≡ take end s
   up_to at e end p =
       let on = place s at e end p in
       let n : at + (end - at) ≡ end = omega (arith, on.0) in
@@ -125,16 +125,16 @@ module _ (s : List ℕ) (b : Bytes s) where
 
   -- it stands before what holds from its end on; a tape that ends, or is refused, holds nothing more
   at_place :
-      (at : ℕ) → at ≤ length s → ((e : Event) (end : ℕ) → event_at s at ≡ Read e end → Holds end (read_from s end)) →
+      (at : ℕ) → at ≤ length s → ((e : Event) (end : ℕ) → event_at s at ≡ Ok (Some (e, end)) → Holds end (read_from s end)) →
       (r : Reading) → event_at s at ≡ r → Holds at (read_by (entries_at s at) (read_from s) r)
   unfolding tape_of
-  at_place at on from (Read e end) p =
+  at_place at on from (Ok (Some (e, end))) p =
       let (w, every) = from e end p in
       let own : List ℕ = encode_all (numbers_of e (entries_at s at)) in
       let rest : List ℕ = tape_of (events_of (read_from s end)) in
       (record { q = w.q; stops = w.stops; bytes = sym (append_assoc (take at s) own rest) ∙ (ap (λ (l : List ℕ). l ++ rest) (up_to at e end p) ∙ w.bytes) }, (spelt_by at e end p, every))
-  at_place at on from (Refused code place) p = (record { q = at; stops = at_refusal p; bytes = append-nil (take at s) }, tt)
-  at_place at on from End p =
+  at_place at on from (Err r) p = (record { q = at; stops = at_refusal p; bytes = append-nil (take at s) }, tt)
+  at_place at on from (Ok None) p =
       let whole : at ≡ length s = omega (arith, tape_ends s at p) in
       (record { q = at; stops = at_end whole; bytes = append-nil (take at s) }, tt)
 
@@ -154,7 +154,7 @@ unfolding buffer_after
 writes vs was e = pick_no _ _ (rw e (le-ltb 0 0 (omega arith))) ∙ stored_front (encode_all vs) was ((gives_0 vs (length was)).0 e).1
 
 rewrites_same :
-    (s : List ℕ) (at : ℕ) (e : Event) (end : ℕ) (out : List ℕ) → Bytes s → event_at s at ≡ Read e end → most_bytes ≤ length out →
+    (s : List ℕ) (at : ℕ) (e : Event) (end : ℕ) (out : List ℕ) → Bytes s → event_at s at ≡ Ok (Some (e, end)) → most_bytes ≤ length out →
     rewritten_after s at out ≡ take (end - at) (drop at s) ++ drop (end - at) out
 unfolding rewritten_after
 rewrites_same s at e end out b q room =
@@ -169,12 +169,9 @@ stops_by : {s : List ℕ} {q : ℕ} {ending : Ending} → StopsAt s q ending →
 stops_by (at_end e) h = e
 stops_by (at_refusal e) h = let z : ◌≡◌ {A = ℕ} 0 1 = cc in absurd (omega arith)
 
-refused_by : {s : List ℕ} {q : ℕ} {ending : Ending} (code p : ℕ) → StopsAt s q ending → ending ≡ refused code p → event_at s q ≡ Refused code p
+refused_by : {s : List ℕ} {q : ℕ} {ending : Ending} (code p : ℕ) → StopsAt s q ending → ending ≡ refused code p → RefusedBy s q code p
 refused_by code p (at_end e) h = let z : ◌≡◌ {A = ℕ} 0 1 = cc in absurd (omega arith)
-refused_by code p (at_refusal {code = k} {p = r} e) h =
-    let c : k ≡ code = cc in
-    let same : r ≡ p = cc in
-    rw (c, same) at e
+refused_by code p (at_refusal {r = r} e) h = (r, e, cc, cc)
 
 pub round_trip : RoundTrip
 unfolding buffer_after

@@ -1,7 +1,7 @@
 -- The loops of the writer: the bytes of the numbers passed. What it answers and leaves, by the refusal.
 use Rattle.std.proofs.Math.Path.{◌≡◌, refl, sym, ap}
 use Rattle.std.proofs.Common.{◌∙◌, zero-add, add-one, length-append, length-drop, take-append-drop, drop_of_length-le, take_all, drop-drop}
-use Rattle.std.specs.Prelude.{Bool, ◌↔◌, ℕ, ◌+◌, ◌-◌, ◌*◌, ◌≤◌, ◌<◌, get_or, take, drop}
+use Rattle.std.specs.Prelude.{Bool, ◌↔◌, ℕ, ◌+◌, ◌-◌, ◌*◌, ◌≤◌, ◌<◌, get_or, take, drop, Ok, Err}
 use Rattle.std.proofs.Math.Bool.{true, false}
 use mathlib.Core.List.{List, [], ◌∷◌, ◌++◌, append_assoc, append-nil}
 use native.Mathlib.Omega.{arith}
@@ -24,10 +24,11 @@ use Rattle.tape.specs.Depth.{most_bytes}
 use Rattle.tape.specs.Spelling.{spells_leads, leads_spells}
 use Rattle.tape.specs.One.{one_event}
 use Rattle.tape.specs.OneLaws.{one_leads, leads_one, one_within}
-use Rattle.writer.specs.declared.Written.{Written}
-use Rattle.writer.specs.declared.Written.TheVariants.{Used, Refused}
+use Rattle.writer.specs.declared.Refusal.{Refusal}
+use Rattle.writer.specs.declared.Refusal.TheVariants.{NoRoom, NotOneEvent}
+use Rattle.writer.specs.Refusal.{refusal_number, refusal_of}
 use Rattle.writer.specs.Tapes.{IsEvent}
-use Rattle.writer.specs.Write.{write_cases, write_refusal, used_bytes, written_of, Told, buffer_after}
+use Rattle.writer.specs.Write.{Written, write_cases, write_refusal, used_bytes, written_of, Told, buffer_after}
 
 -- the bytes of numbers after numbers
 encode_append : (vs ws : List ℕ) → encode_all (vs ++ ws) ≡ encode_all vs ++ encode_all ws
@@ -139,37 +140,54 @@ unfolding write_refusal pick is_not
 never_short vs room h one =
     rw (one, le-ltb room (length (encode_all vs)) (omega (arith, bytes_within vs, one_within vs one)))
 
+-- a refusal is that of its number, which is not 0
+pub of_number : (why : Refusal) → refusal_of (refusal_number why) ≡ why
+unfolding refusal_of pick
+of_number NoRoom = refl
+of_number NotOneEvent = refl
+
+pub some_number : (why : Refusal) → 0 < refusal_number why
+some_number NoRoom = omega arith
+some_number NotOneEvent = omega arith
+
+-- and a number that refuses is that of its refusal
+number_of : (vs : List ℕ) (room : ℕ) → ltb 0 (write_refusal vs room) ≡ true → refusal_number (refusal_of (write_refusal vs room)) ≡ write_refusal vs room
+unfolding write_refusal refusal_of pick
+number_of vs room h = go (is_not (one_event event vs)) (ltb room (length (encode_all vs))) h
+  where
+    go : (t u : Bool) → ltb 0 (pick t 41 (pick u 40 0)) ≡ true → refusal_number (refusal_of (pick t 41 (pick u 40 0))) ≡ pick t 41 (pick u 40 0)
+    go true u h = refl
+    go false true h = refl
+    go false false h = absurd (omega (arith, ltb-true 0 0 h))
+
 -- what the writer answers, and what it leaves in the lent memory
 module _ (vs was : List ℕ) where
   abbrev Writes : Written → List ℕ → Type 0
   Writes r buffer = (r ≡ written_of vs (length was)) × (Told vs (length was) r × (buffer ≡ buffer_after vs was))
 
-  pub refuses : {code : ℕ} → code ≡ write_refusal vs (length was) → 0 < code → Writes (Refused code) was
+  pub refuses : {why : Refusal} → refusal_number why ≡ write_refusal vs (length was) → Writes (Err why) was
   unfolding written_of used_bytes buffer_after
-  refuses {code} e h =
-      let t : ltb 0 (write_refusal vs (length was)) ≡ true = rw (← e) (lt-ltb 0 code h) in
-      (ap Refused e ∙ sym (pick_yes _ _ t), (record { code = e; used = sym (pick_yes _ _ t) }, sym (pick_yes _ _ t)))
+  refuses {why} e =
+      let t : ltb 0 (write_refusal vs (length was)) ≡ true = rw (← e) (lt-ltb 0 (refusal_number why) (some_number why)) in
+      let same : why ≡ refusal_of (write_refusal vs (length was)) = sym (of_number why) ∙ ap refusal_of e in
+      (ap Err same ∙ sym (pick_yes _ _ t), (record { code = e; used = sym (pick_yes _ _ t) }, sym (pick_yes _ _ t)))
 
   pub writes :
       {used : ℕ} {buffer : List ℕ} → write_refusal vs (length was) ≡ 0 → buffer ≡ stored (encode_all vs) was → used ≡ length (encode_all vs) →
-      Writes (Used used) buffer
+      Writes (Ok used) buffer
   unfolding written_of used_bytes buffer_after
   writes e laid long =
       let t : ltb 0 (write_refusal vs (length was)) ≡ false = rw e (le-ltb 0 0 (omega arith)) in
-      (ap Used long ∙ sym (pick_no _ _ t), (record { code = sym e; used = long ∙ sym (pick_no _ _ t) }, laid ∙ sym (pick_no _ _ t)))
+      (ap Ok long ∙ sym (pick_no _ _ t), (record { code = sym e; used = long ∙ sym (pick_no _ _ t) }, laid ∙ sym (pick_no _ _ t)))
 
 -- the bytes used lie in the room
-pub used_within : (vs : List ℕ) (room n : ℕ) → written_of vs room ≡ Used n → n ≤ room
-unfolding written_of
-used_within vs room n q = go (ltb 0 (write_refusal vs room)) refl
+pub used_within : (vs : List ℕ) (room n : ℕ) → written_of vs room ≡ Ok n → n ≤ room
+unfolding written_of pick
+used_within vs room n q = go (ltb 0 (write_refusal vs room)) refl q
   where
-    go : (t : Bool) → ltb 0 (write_refusal vs room) ≡ t → n ≤ room
-    go true t = absurd (refused_used (sym (pick_yes (Refused (write_refusal vs room)) (Used (length (encode_all vs))) t) ∙ q))
-      where
-        refused_used : Refused (write_refusal vs room) ≡ Used n → ⊥
-        refused_used e = let z : ◌≡◌ {A = ℕ} 0 1 = cc in omega arith
-    go false t =
-        let e : Used (length (encode_all vs)) ≡ Used n = sym (pick_no (Refused (write_refusal vs room)) (Used (length (encode_all vs))) t) ∙ q in
+    go : (t : Bool) → ltb 0 (write_refusal vs room) ≡ t → ◌≡◌ {A = Written} (pick t (Err (refusal_of (write_refusal vs room))) (Ok (length (encode_all vs)))) (Ok n) → n ≤ room
+    go true t e = absurd (cc)
+    go false t e =
         let long : length (encode_all vs) ≡ n = cc in
         omega (arith, (accepted vs room (omega (arith, ltb-false 0 (write_refusal vs room) t))).1)
 
@@ -183,22 +201,22 @@ part_laid bytes out at h =
 
 -- what the writer's answer says
 module _ (vs : List ℕ) (room : ℕ) {r : Written} (is : r ≡ written_of vs room) where
-  pub used_says : {n : ℕ} → r ≡ Used n → (write_refusal vs room ≡ 0) × (n ≡ length (encode_all vs))
+  pub used_says : {n : ℕ} → r ≡ Ok n → (write_refusal vs room ≡ 0) × (n ≡ length (encode_all vs))
   unfolding written_of pick
   used_says {n} e = go (ltb 0 (write_refusal vs room)) refl (sym e ∙ is)
     where
       go :
-          (t : Bool) → ltb 0 (write_refusal vs room) ≡ t → Used n ≡ pick t (Refused (write_refusal vs room)) (Used (length (encode_all vs))) →
+          (t : Bool) → ltb 0 (write_refusal vs room) ≡ t → Ok n ≡ pick t (Err (refusal_of (write_refusal vs room))) (Ok (length (encode_all vs))) →
           (write_refusal vs room ≡ 0) × (n ≡ length (encode_all vs))
-      go true t q = let z : ◌≡◌ {A = ℕ} 0 1 = cc in absurd (omega arith)
+      go true t q = absurd (cc)
       go false t q = (omega (arith, ltb-false 0 (write_refusal vs room) t), cc)
 
-  pub refused_says : {code : ℕ} → r ≡ Refused code → (write_refusal vs room ≡ code) × (0 < code)
+  pub refused_says : {why : Refusal} → r ≡ Err why → (write_refusal vs room ≡ refusal_number why) × (0 < refusal_number why)
   unfolding written_of pick
-  refused_says {code} e = go (ltb 0 (write_refusal vs room)) refl (sym e ∙ is)
+  refused_says {why} e = go (ltb 0 (write_refusal vs room)) refl (sym e ∙ is)
     where
       go :
-          (t : Bool) → ltb 0 (write_refusal vs room) ≡ t → Refused code ≡ pick t (Refused (write_refusal vs room)) (Used (length (encode_all vs))) →
-          (write_refusal vs room ≡ code) × (0 < code)
-      go true t q = let same : write_refusal vs room ≡ code = cc in (same, omega (arith, ltb-true 0 (write_refusal vs room) t))
-      go false t q = let z : ◌≡◌ {A = ℕ} 0 1 = cc in absurd (omega arith)
+          (t : Bool) → ltb 0 (write_refusal vs room) ≡ t → Err why ≡ pick t (Err (refusal_of (write_refusal vs room))) (Ok (length (encode_all vs))) →
+          (write_refusal vs room ≡ refusal_number why) × (0 < refusal_number why)
+      go true t q = let same : refusal_of (write_refusal vs room) ≡ why = cc in (sym (number_of vs room t) ∙ ap refusal_number same, some_number why)
+      go false t q = absurd (cc)

@@ -6,23 +6,30 @@ pub mod rewriting;
 ghost use Rattle.std.specs.Prelude.{◌≡◌, ◌≤◌, ltb, length};
 ghost use Rattle.tape.specs.Tape.{stored};
 ghost use Rattle.tape.specs.Leads.{encode_all};
+ghost use Rattle.writer.specs.Refusal.{refusal_number};
 ghost use Rattle.writer.specs.Write.{Told, written_of, buffer_after};
 
 use numeral::writing::length;
 use tape::one::one_event;
-use units::words::{first, is_not};
 
-// The numbers are not exactly one event that the reader takes.
-pub const NOT_ONE_EVENT: u32 = 41;
+// Why an event is not written: its exact length exceeds the room; the numbers are not exactly one event that the reader
+// takes.
+#[derive(Clone, Copy, PartialEq, Eq)]
+pub enum Refusal {
+    NoRoom,
+    NotOneEvent,
+}
 
-// The event's exact length exceeds the room.
-pub const NO_ROOM: u32 = 40;
-
-// The bytes used, or the number of the refusal.
-#[derive(Clone, Copy)]
-pub enum Written {
-    Used(usize),
-    Refused(u32),
+impl Refusal {
+    // The number that a writer is told: 40 or 41.
+    pub fn number(self) -> u32
+        ensures { result ≡ refusal_number self }
+    {
+        match self {
+            Refusal::NoRoom => 40,
+            Refusal::NotOneEvent => 41,
+        }
+    }
 }
 
 // Whether the bytes of all the numbers are more than there is room for.
@@ -30,15 +37,12 @@ fn exceeds(numbers: &[u32], room: usize) -> bool
     ensures { result ≡ ltb room (length (encode_all numbers.now)) }
 {
     let mut left = room;
-    let mut i = 0usize;
-    while i < numbers.len() {
-        let v = numbers[i];
+    for &v in numbers {
         let bytes = length(v);
         if left < bytes {
             return true;
         }
         left -= bytes;
-        i += 1;
     }
     false
 }
@@ -49,29 +53,26 @@ fn lay(numbers: &[u32], buffer: &mut [u8]) -> usize
     ensures bytes { buffer.new ≡ stored (encode_all numbers.now) buffer.old }
     ensures count { result ≡ length (encode_all numbers.now) }
 {
-    let mut at = 0usize;
-    let mut i = 0usize;
-    while i < numbers.len() {
-        let v = numbers[i];
+    let mut at = 0;
+    for &v in numbers {
         at += numeral::writing::write(v, buffer, at);
-        i += 1;
     }
     at
 }
 
-// Writes one event, given as its numbers in the tape's order, from the front of the lent memory. Refused, first that
-// applies, with every byte left as found: 41 numbers that are not exactly one event that the reader takes, 40 an event
-// whose exact length exceeds the room. Past the bytes used the memory stays as found, too.
-pub fn write(numbers: &[u32], buffer: &mut [u8]) -> Written
+// Writes one event, given as its numbers in the tape's order, from the front of the lent memory, and answers the bytes
+// used. Refused, first that applies, with every byte left as found: numbers that are not exactly one event that the
+// reader takes, an event whose exact length exceeds the room. Past the bytes used the memory stays as found, too.
+pub fn write(numbers: &[u32], buffer: &mut [u8]) -> Result<usize, Refusal>
     ensures answer { result ≡ written_of numbers.now (length buffer.old) }
     ensures values { Told numbers.now (length buffer.old) result }
     ensures bytes { buffer.new ≡ buffer_after numbers.now buffer.old }
 {
-    let one = one_event(numbers);
-    let long = exceeds(numbers, buffer.len());
-    let refusal = first(is_not(one), NOT_ONE_EVENT, first(long, NO_ROOM, 0));
-    if refusal > 0 {
-        return Written::Refused(refusal);
+    if !one_event(numbers) {
+        return Err(Refusal::NotOneEvent);
     }
-    Written::Used(lay(numbers, buffer))
+    if exceeds(numbers, buffer.len()) {
+        return Err(Refusal::NoRoom);
+    }
+    Ok(lay(numbers, buffer))
 }

@@ -1,7 +1,7 @@
 -- `figures::used_up` meets its contract.
 use Rattle.std.proofs.Common.{ap}
 use Rattle.units.specs.Tests.{pick}
-use Rattle.figures.specs.declared.Next.TheVariants.{Stop}
+use Rattle.figures.specs.Next.{Stop}
 use Rattle.figures.specs.Inscribing.{used_up}
 use Rattle.figures.proofs.used_up.Goals as goal
 
@@ -11,4 +11,4 @@ returns-then-more c = simp c.if-more.true
 
 pub returns-else-more : goal.returns-else-more
 unfolding used_up pick
-returns-else-more c = simp c.if-more.false (ap Stop c.last_code.ensures)
+returns-else-more c = simp c.if-more.false (ap Stop c.ending.ensures)

@@ -7,4 +7,4 @@ use Rattle.fills.proofs.turn.Goals as goal
 pub store_all-requires : goal.store_all-requires
 store_all-requires c =
     let row = c.args.fills.now in
-    (all_told fills_in row _ _ _ (turn_few _ _ _) (turn_within _ _ _ refl) c.turn_core-turned.ensures.exact c.turn_fills-count.ensures).0
+    (all_told fills_in row _ _ _ (turn_few _ _ _) (turn_within _ _ _ refl) c.turn_core-answer.ensures.exact c.turn_fills.ensures).0

@@ -1,12 +1,13 @@
 -- `price::near_either` meets its contract, by the first test.
-use borrow.Author.Tests.{le-leb, lt-leb}
+use Rattle.std.proofs.Common.{arith}
+use Rattle.std.proofs.lemmas.Grind.{common_steps}
 use Rattle.price.specs.Price.{near_either}
 use Rattle.price.proofs.near_either.Goals as goal
 
-pub returns-then-price-bid : goal.returns-then-price-bid
+pub returns-then-from-amount : goal.returns-then-from-amount
 unfolding near_either
-returns-then-price-bid c = rw (← c.minimum_amount-amount.ensures) (simp (le-leb _ _ c.if-price-bid.true))
+returns-then-from-amount c = grind (arith, common_steps)
 
-pub returns-else-price-bid : goal.returns-else-price-bid
+pub returns-else-from-amount : goal.returns-else-from-amount
 unfolding near_either
-returns-else-price-bid c = rw (← c.minimum_amount-amount.ensures, lt-leb _ _ c.if-price-bid.false)
+returns-else-from-amount c = grind (arith, common_steps)

@@ -1,20 +1,21 @@
 -- `price::valid` meets its contract, by which quotes are present.
-use borrow.Author.Tests.{lt-ltb, le-ltb}
+use Rattle.std.proofs.Common.{arith}
+use Rattle.std.proofs.lemmas.Grind.{common_steps}
 use Rattle.price.specs.Price.{valid}
 use Rattle.price.proofs.valid.Goals as goal
 
-pub returns-then-offer-gt0 : goal.returns-then-offer-gt0
+pub returns-in-true-true : goal.returns-in-true-true
 unfolding valid
-returns-then-offer-gt0 c = rw (← c.between.ensures) (simp (lt-ltb _ _ c.if-bid-gt0.true, lt-ltb _ _ c.if-offer-gt0.true))
+returns-in-true-true c = grind (arith, common_steps)
 
-pub returns-else-offer-gt0 : goal.returns-else-offer-gt0
+pub returns-in-true-false : goal.returns-in-true-false
 unfolding valid
-returns-else-offer-gt0 c = simp (lt-ltb _ _ c.if-bid-gt0.true, le-ltb _ _ c.if-offer-gt0.false)
+returns-in-true-false c = grind (arith, common_steps)
 
-pub returns-then-offer-gt0-2 : goal.returns-then-offer-gt0-2
+pub returns-in-false-true : goal.returns-in-false-true
 unfolding valid
-returns-then-offer-gt0-2 c = simp (le-ltb _ _ c.if-bid-gt0.false, lt-ltb _ _ c.if-offer-gt0-2.true)
+returns-in-false-true c = grind (arith, common_steps)
 
-pub returns-else-offer-gt0-2 : goal.returns-else-offer-gt0-2
+pub returns-in-false-false : goal.returns-in-false-false
 unfolding valid
-returns-else-offer-gt0-2 c = simp (le-ltb _ _ c.if-bid-gt0.false, le-ltb _ _ c.if-offer-gt0-2.false)
+returns-in-false-false c = grind (arith, common_steps)

@@ -1,30 +1,42 @@
 -- `rehearse::main` is safe and ends, and each turn of its loop keeps what stands in `Invariants.antt`.
-use Rattle.std.proofs.Common.{ℕ, rules, arith}
+use Rattle.std.proofs.Common.{◌≡◌, sym, ap, ◌∙◌, ℕ, rules, arith}
 use Rattle.std.proofs.Math.ListN.{length-replicate}
 use Rattle.window.specs.Window.{window_long}
-use Rattle.rehearse.specs.Rehearsing.{rehearsal_starts, fits_window, fits_output, turn_reads, turn_writes, turn_stops}
+use Rattle.window.specs.Program.{status_byte}
+use Rattle.window.specs.declared.program.Status.TheVariants.{Going}
+use Rattle.playing.specs.Next.{Stop, next_of}
+use Rattle.rehearse.specs.Rehearsing.{rehearsal_starts, fits_window, fits_output, turn_reads, turn_fails, turn_writes, turn_stops}
 use Rattle.rehearse.proofs.main.Goals as goal
 
 pub loop-turns-init : goal.loop-turns-init
 loop-turns-init c =
-    rehearsal_starts c.new-s.ensures.exact (c.new-s.ensures.sound _ _) (length-replicate {A = ℕ} window_long 0) (length-replicate {A = ℕ} window_long 0) (omega arith)
+    rw c.new-book.ensures
+    (rehearsal_starts c.new-s.ensures.exact (c.new-s.ensures.sound _ _) (length-replicate {A = ℕ} window_long 0) (length-replicate {A = ℕ} window_long 0) (omega arith))
 
-pub refill-filled-requires-clause-from_le_to : goal.refill-filled-requires-clause-from_le_to
-refill-filled-requires-clause-from_le_to c = (fits_window c.loop-turns.invariant c.play-done.ensures (search rules)).0
+pub refill-requires-clause-from_le_to : goal.refill-requires-clause-from_le_to
+refill-requires-clause-from_le_to c = (fits_window c.loop-turns.invariant c.play-done.ensures (search rules)).0
 
-pub refill-filled-requires-clause-from_bound : goal.refill-filled-requires-clause-from_bound
-refill-filled-requires-clause-from_bound c = (fits_window c.loop-turns.invariant c.play-done.ensures (search rules)).1.1
+pub refill-requires-clause-from_bound : goal.refill-requires-clause-from_bound
+refill-requires-clause-from_bound c = (fits_window c.loop-turns.invariant c.play-done.ensures (search rules)).1.1
 
-pub loop-turns-preserved-in-Read : goal.loop-turns-preserved-in-Read
-loop-turns-preserved-in-Read c =
-    turn_reads c.loop-turns.invariant c.play-done.ensures (search rules) c.if-status-eq-GOING.true c.in-Read.is c.refill-filled.ensures.refilled c.loop-turns-test.true
+pub loop-turns-preserved-in-Ok : goal.loop-turns-preserved-in-Ok
+loop-turns-preserved-in-Ok c =
+    let going : c.loop-turns.status ≡ Going = search rules in
+    turn_reads c.loop-turns.invariant c.play-done.ensures (search rules) (ap status_byte going) (ap next_of c.in-Read.is) c.in-Ok.ensures.refilled c.loop-turns-test.true
+
+pub loop-turns-preserved-in-Err : goal.loop-turns-preserved-in-Err
+loop-turns-preserved-in-Err c =
+    turn_fails c.loop-turns.invariant c.play-done.ensures (search rules) c.refill.ensures.refilled c.loop-turns-test.true (λ stops. omega arith)
 
 pub flush-status-requires : goal.flush-status-requires
 flush-status-requires c = fits_output c.loop-turns.invariant c.play-done.ensures (search rules)
 
 pub loop-turns-preserved-in-Write : goal.loop-turns-preserved-in-Write
 loop-turns-preserved-in-Write c =
-    turn_writes c.loop-turns.invariant c.play-done.ensures (search rules) c.loop-turns-test.true c.if-status-eq-GOING.true c.in-Write.is
+    let going : c.loop-turns.status ≡ Going = search rules in
+    turn_writes c.loop-turns.invariant c.play-done.ensures (search rules) c.loop-turns-test.true (ap status_byte going) (ap next_of c.in-Write.is)
 
 pub loop-turns-preserved : goal.loop-turns-preserved
-loop-turns-preserved c = turn_stops c.loop-turns.invariant c.play-done.ensures (search rules) c.loop-turns-test.true c.in-Stop.is
+loop-turns-preserved c =
+    let stops : next_of c.play-done.result.next ≡ Stop (status_byte c.status_at-status.result) = ap next_of c.in-Stop.is ∙ ap Stop (sym c.status_at-status.ensures) in
+    turn_stops c.loop-turns.invariant c.play-done.ensures (search rules) c.loop-turns-test.true stops

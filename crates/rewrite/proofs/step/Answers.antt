@@ -1,19 +1,24 @@
 -- `rewrite::step` meets its contract: what is written ends on the tape, and lies in the room that is lent.
-use Rattle.std.proofs.Common.{sym, ap, ◌∙◌, ◌+◌, ◌-◌, ◌≤◌, length, drop, arith, length-take, length-drop, rules}
-use Rattle.writer.specs.declared.Written.{Written}
-use Rattle.writer.specs.declared.rewriting.Rewritten.TheVariants.{Event}
+use Rattle.std.proofs.Common.{ℕ, sym, ap, ◌∙◌, ◌+◌, ◌-◌, ◌≤◌, Some, Ok, length, drop, arith, length-take, length-drop, rules}
+use Rattle.writer.specs.Write.{Written}
+use Rattle.writer.specs.Rewriting.{Answer, written_to}
 use Rattle.writer.specs.RewritingLaws.{rewritten_within}
 use Rattle.rewrite.proofs.step.Goals as goal
 
+-- what is answered where an event is written
+abbrev answer : ℕ → Written → Answer
+answer end w = Ok (Some (written_to w end))
+
 -- where the event ends, and the bytes that it takes of the room
-fits : (c : goal.In-Used) → (c.in-Event.end ≤ length c.args.bytes.now) × (c.args.at + c.in-Used.used ≤ length c.args.out.now)
+fits : (c : goal.In-Ok) → (c.in-Ok-Some.rewritten.end ≤ length c.args.bytes.now) × (c.args.at + c.in-Ok.used ≤ length c.args.out.now)
 fits c =
     let a = c.args in
-    let w = rewritten_within a.bytes.now a.from _ _ c.in-Event.end (sym c.in-Event.ensures.answer ∙ ap (λ (x : Written). Event x c.in-Event.end) c.in-Used.is) in
+    let end = c.in-Ok-Some.rewritten.end in
+    let w = rewritten_within a.bytes.now a.from _ _ end (sym (rw c.in-Ok-Some.field-0-is at c.in-Ok-Some.ensures.answer) ∙ ap (answer end) (rw c.in-Ok-Some.field-0-is at c.in-Ok.is)) in
     (w.0, omega (arith, w.1, length-take (length a.out.now - a.at) (drop a.at a.out.now), length-drop a.at a.out.now, c.requires.at_in_bounds))
 
 pub overflow_add-result : goal.overflow_add-result
 overflow_add-result c = omega (arith, (fits c).1)
 
-pub returns-in-Used : goal.returns-in-Used
-returns-in-Used c = record { on_tape = (fits c).0; within = (fits c).1; long = search rules }
+pub returns-in-Ok : goal.returns-in-Ok
+returns-in-Ok c = rw c.in-Ok-Some.field-0-is record { on_tape = (fits c).0; within = (fits c).1; long = search rules }

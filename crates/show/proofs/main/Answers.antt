@@ -2,10 +2,10 @@
 -- market sound.
 use Rattle.show.proofs.main.Goals as goal
 
-pub submit-sells-requires : goal.submit-sells-requires
-submit-sells-requires c =
-    λ a. (c.submit-buys.ensures.sound _ (c.open_on_row-quiet.ensures.sound _ (c.settings-set.ensures.sound (c.new.ensures.sound _ _))) a).lanes
+pub submit-requires-2 : goal.submit-requires-2
+submit-requires-2 c =
+    λ a. (c.submit.ensures.sound _ (c.open_on_row.ensures.sound _ (c.settings.ensures.sound (c.new-session.ensures.sound _ _))) a).lanes
 
 pub turn_on_row-first-requires : goal.turn_on_row-first-requires
 turn_on_row-first-requires c =
-    c.submit-sells.ensures.sound _ (c.submit-buys.ensures.sound _ (c.open_on_row-quiet.ensures.sound _ (c.settings-set.ensures.sound (c.new.ensures.sound _ _))))
+    c.submit-2.ensures.sound _ (c.submit.ensures.sound _ (c.open_on_row.ensures.sound _ (c.settings.ensures.sound (c.new-session.ensures.sound _ _))))

@@ -8,14 +8,14 @@ use Rattle.units.specs.Loops.{sum_starts, sum_goes_on}
 use Rattle.tally.specs.Tallies.{tally_at}
 use Rattle.tally.proofs.turns_in_all.Goals as goal
 
-pub loop-i-init : goal.loop-i-init
-loop-i-init c = sum_starts tenants _
+pub loop-t-init : goal.loop-t-init
+loop-t-init c = sum_starts tenants _
 
 pub overflow_add-sum : goal.overflow_add-sum
 overflow_add-sum c =
-    let l = c.loop-i in
+    let l = c.loop-t in
     let xs = c.args.tallies in
-    omega (arith, sum_next (λ t. (tally_at xs t).turns) l.i, sum_grows (λ t. (tally_at xs t).turns) (l.i + 1) tenants (omega arith))
+    omega (arith, sum_next (λ t. (tally_at xs t).turns) l.t-index, sum_grows (λ t. (tally_at xs t).turns) (l.t-index + 1) tenants (omega arith))
 
-pub loop-i-preserved : goal.loop-i-preserved
-loop-i-preserved c = sum_goes_on tenants _ _ _ _ c.loop-i.invariant c.loop-i-test.true refl
+pub loop-t-preserved : goal.loop-t-preserved
+loop-t-preserved c = sum_goes_on tenants _ _ _ _ c.loop-t.invariant c.loop-t-test.true refl

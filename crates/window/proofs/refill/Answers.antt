@@ -7,8 +7,8 @@ use Rattle.window.proofs.refill.Goals as goal
 pub returns-in-Ok-clause-bytes : goal.returns-in-Ok-clause-bytes
 returns-in-Ok-clause-bytes g c =
     let left = c.args.to - c.args.from in
-    let mid = c.to_front.new.window in
-    let read = c.read-got.new.buf in
+    let mid = c.copy_within.new.self in
+    let read = c.read.new.buf in
     let few : c.in-Ok.n ≤ length read = search rules in
     let fits : left ≤ length mid = search rules in
     subst (Consumes _ _) (sym (read_next mid read left (length mid - left) c.in-Ok.n fits few)) c.in-Ok.ensures.bytes.0

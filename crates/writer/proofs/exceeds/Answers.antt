@@ -3,11 +3,11 @@ use Rattle.std.proofs.Common.{arith}
 use Rattle.writer.specs.WriteLaws.{counting_starts, counting_exceeds, counting_goes_on}
 use Rattle.writer.proofs.exceeds.Goals as goal
 
-pub loop-i-init : goal.loop-i-init
-loop-i-init c = counting_starts _ _
+pub loop-v-init : goal.loop-v-init
+loop-v-init c = counting_starts _ _
 
 pub returns-then-left-bytes : goal.returns-then-left-bytes
-returns-then-left-bytes c = counting_exceeds _ c.loop-i.invariant (omega arith) c.length-bytes.ensures (omega arith)
+returns-then-left-bytes c = counting_exceeds _ c.loop-v.invariant (omega arith) c.length-bytes.ensures (omega arith)
 
-pub loop-i-preserved : goal.loop-i-preserved
-loop-i-preserved c = counting_goes_on _ c.loop-i.invariant (omega arith) c.length-bytes.ensures (omega arith)
+pub loop-v-preserved : goal.loop-v-preserved
+loop-v-preserved c = counting_goes_on _ c.loop-v.invariant (omega arith) c.length-bytes.ensures (omega arith)

@@ -7,4 +7,4 @@ pub loop-j-init : goal.loop-j-init
 loop-j-init c = best_starts _ _ _ _ _ c.requires.floor_le_top
 
 pub loop-j-preserved : goal.loop-j-preserved
-loop-j-preserved c = best_goes_on _ _ _ _ _ c.requires.floor_le_top _ _ _ _ _ c.loop-j.invariant (rw c.wide.ensures at c.joined-best.ensures.joined) c.loop-j-test.true c.joined-best.ensures.size_le_most32
+loop-j-preserved c = best_goes_on _ _ _ _ _ c.requires.floor_le_top _ _ _ _ _ c.loop-j.invariant (rw c.from.ensures at c.joined-best.ensures.joined) c.loop-j-test.true c.joined-best.ensures.size_le_most32

@@ -7,13 +7,13 @@ pub returns-then-k-floor : goal.returns-then-k-floor
 returns-then-k-floor c = record { joined = joins_below _ _ _ _ _ c.requires.floor_le_key c.if-k-floor.true; size_le_most32 = omega arith }
 
 pub returns-then-size-gt0 : goal.returns-then-size-gt0
-returns-then-size-gt0 c = record { joined = rw c.wide.ensures (joins_better _ _ _ _ _ c.requires.floor_le_key (omega arith) (omega arith) (omega arith)); size_le_most32 = omega arith }
+returns-then-size-gt0 c = record { joined = rw c.from.ensures (joins_better _ _ _ _ _ c.requires.floor_le_key (omega arith) (omega arith) (omega arith)); size_le_most32 = omega arith }
 
 pub returns-else-size-gt0 : goal.returns-else-size-gt0
 returns-else-size-gt0 c = record { joined = joins_free _ _ _ _ _ c.requires.floor_le_key (omega arith) (omega arith); size_le_most32 = omega arith }
 
 pub returns-then-k-at-2 : goal.returns-then-k-at-2
-returns-then-k-at-2 c = record { joined = rw c.wide-then-k-at-2.ensures (joins_same _ _ _ _ _ c.requires.floor_le_key c.if-k-at-2.true); size_le_most32 = omega arith }
+returns-then-k-at-2 c = record { joined = rw c.from-then-k-at-2.ensures (joins_same _ _ _ _ _ c.requires.floor_le_key c.if-k-at-2.true); size_le_most32 = omega arith }
 
 pub returns-else-k-at-2 : goal.returns-else-k-at-2
 returns-else-k-at-2 c = record { joined = joins_worse _ _ _ _ _ c.requires.floor_le_key (omega arith); size_le_most32 = omega arith }

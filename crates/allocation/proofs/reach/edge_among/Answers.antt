@@ -6,8 +6,8 @@ use Rattle.allocation.proofs.reach.edge_among.Goals as goal
 pub loop-floor-init : goal.loop-floor-init
 loop-floor-init c = reaching_starts _ _ _ _
 
-pub returns-then-wide-best : goal.returns-then-wide-best
-returns-then-wide-best c = edge_found _ _ _ _ _ _ _ _ _ c.loop-floor-test.true c.loop-floor.invariant c.best_from-best.ensures.key_value c.best_from-best.ensures.total_value (rw c.wide.ensures at c.if-wide-best.true)
+pub returns-then-from-best : goal.returns-then-from-best
+returns-then-from-best c = edge_found _ _ _ _ _ _ _ _ _ c.loop-floor-test.true c.loop-floor.invariant c.best_from-best.ensures.key_value c.best_from-best.ensures.total_value (rw c.from.ensures at c.if-from-best.true)
 
 pub overflow_add-floor : goal.overflow_add-floor
 overflow_add-floor c = omega (arith, c.requires.top_le_no_number, best_bounds _ _ _ _ _ _ _ _ _ c.loop-floor-test.true c.loop-floor.invariant c.best_from-best.ensures.key_value c.best_from-best.ensures.total_value)
@@ -16,7 +16,7 @@ pub loop-floor-smaller : goal.loop-floor-smaller
 loop-floor-smaller c = omega (arith, best_bounds _ _ _ _ _ _ _ _ _ c.loop-floor-test.true c.loop-floor.invariant c.best_from-best.ensures.key_value c.best_from-best.ensures.total_value)
 
 pub loop-floor-preserved : goal.loop-floor-preserved
-loop-floor-preserved c = reaching_goes_on _ _ _ _ _ _ _ _ _ c.loop-floor-test.true c.loop-floor.invariant c.best_from-best.ensures.key_value c.best_from-best.ensures.total_value (rw c.wide.ensures at c.if-wide-best.false)
+loop-floor-preserved c = reaching_goes_on _ _ _ _ _ _ _ _ _ c.loop-floor-test.true c.loop-floor.invariant c.best_from-best.ensures.key_value c.best_from-best.ensures.total_value (rw c.from.ensures at c.if-from-best.false)
 
 pub returns : goal.returns
 returns c = edge_past _ _ _ _ _ _ _ c.loop-floor-test.false c.requires.keys_below c.loop-floor.invariant

@@ -5,8 +5,8 @@ use Rattle.allocation.specs.EdgeLaws.{edge_of_all}
 use Rattle.rows.specs.Passes.{resting_within}
 use Rattle.allocation.proofs.reach.edge_of.Goals as goal
 
-pub returns-then-all-wide : goal.returns-then-all-wide
+pub returns-then-all-from : goal.returns-then-all-from
 unfolding resting_within
-returns-then-all-wide c =
+returns-then-all-from c =
     let a = c.args in
-    edge_of_all _ _ _ _ _ _ (keys_below a.side a.bound.0 a.sides.now a.prices.now a.sizes.now c.requires.priced) c.requires.all_value (omega (arith, c.wide.ensures))
+    edge_of_all _ _ _ _ _ _ (keys_below a.side a.bound.0 a.sides.now a.prices.now a.sizes.now c.requires.priced) c.requires.all_value (omega (arith, c.from.ensures))

@@ -7,6 +7,3 @@ use Rattle.book.proofs.trading.remove.Given as goal
 
 abbrev pub invariant-loop-i : goal.invariant-loop-i
 invariant-loop-i l = Replaced rows (λ j. at l.initial.sizes j - at l.quantities j) l.initial.sizes l.i l.sizes
-
-abbrev pub decreases-loop-i : goal.decreases-loop-i
-decreases-loop-i l = 216 - l.i

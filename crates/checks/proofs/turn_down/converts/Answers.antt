@@ -1,7 +1,14 @@
--- `checks::turn_down::converts` meets its contract: the calls are the words of the rule.
+-- `checks::turn_down::converts` meets its contract, test by test.
+use Rattle.std.proofs.Common.{arith}
+use Rattle.std.proofs.lemmas.Grind.{common_steps}
+use Rattle.units.specs.Tests.{◌and◌}
 use Rattle.checks.specs.TurnDown.{converts}
 use Rattle.checks.proofs.turn_down.converts.Goals as goal
 
-pub returns : goal.returns
-unfolding converts
-returns c = cc
+pub returns-then-unbid : goal.returns-then-unbid
+unfolding converts ◌and◌
+returns-then-unbid c = grind (arith, common_steps)
+
+pub returns-else-unbid : goal.returns-else-unbid
+unfolding converts ◌and◌
+returns-else-unbid c = grind (arith, common_steps)

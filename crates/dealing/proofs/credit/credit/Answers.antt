@@ -9,8 +9,8 @@ use Rattle.dealing.proofs.credit.credit.Goals.{then-quantity-gt0, else-quantity-
 pub loop-i-init : goal.loop-i-init
 loop-i-init c = credit_starts _ _ _ _
 
-pub credit_owner-u-requires : goal.credit_owner-u-requires
-credit_owner-u-requires c = can_credit_owner _ _ _ _ (can_credit _ _ _ _ _ _ c.requires c.loop-i.invariant c.loop-i-test.true) c.if-quantity-gt0.true
+pub credit_owner-requires : goal.credit_owner-requires
+credit_owner-requires c = can_credit_owner _ _ _ _ (can_credit _ _ _ _ _ _ c.requires c.loop-i.invariant c.loop-i-test.true) c.if-quantity-gt0.true
 
 pub loop-i-preserved : goal.loop-i-preserved
 loop-i-preserved c =
@@ -22,6 +22,6 @@ loop-i-preserved c =
     (elim c.if-quantity-gt0.branch [
       | then-quantity-gt0 took ↦
           took.after-is
-          ∙ row_traded _ _ _ _ (can_credit _ _ _ _ _ _ c.requires w h) took.if-quantity-gt0.true _ took.credit_owner-u.ensures
+          ∙ row_traded _ _ _ _ (can_credit _ _ _ _ _ _ c.requires w h) took.if-quantity-gt0.true _ took.credit_owner.ensures
       | else-quantity-gt0 past ↦ past.after-is ∙ row_none _ (at a.sides.now i) (at a.owners.now i) _ (omega (arith, past.if-quantity-gt0.false))
     ])

@@ -1,73 +1,52 @@
 -- `dealing::deal::order` meets its contract, by the three verdicts.
-use mathlib.Core.Path.{◌∙◌}
+use mathlib.Core.Path.{◌≡◌, ◌∙◌, ap}
 use native.Mathlib.Omega.{arith}
-use Rattle.book.specs.SoundLaws.{sound_whole}
-use Rattle.dealing.specs.Floor.{lent_floor}
-use Rattle.dealing.specs.OrderLaws.{quoted_is, stands_is, can_rest, can_trade, by_verdict_lem}
+use Rattle.std.specs.Prelude.{Result, Ok}
+use Rattle.entry.specs.declared.refusal.TurnDown.{TurnDown}
+use Rattle.judge.specs.declared.Judged.{Judged}
+use Rattle.judge.specs.declared.Judged.TheVariants as passed
+use Rattle.judge.specs.JudgedOf.{judged_of}
+use Rattle.dealing.specs.Floor.{met}
+use Rattle.dealing.specs.OrderLaws.{Told, told_of}
 use Rattle.dealing.proofs.deal.order.Goals as goal
+use Rattle.dealing.proofs.deal.order.Goals.{After-judge}
+
+-- what an order that is not turned down is judged
+passes : (r : Result Judged TurnDown) (x y : Judged) → r ≡ Ok x → x ≡ y → judged_of r ≡ judged_of (Ok y)
+passes r x y e f = ap judged_of (rw f at e)
+
+-- what the quotes, the standing and the verdict give
+told : (c : After-judge) → Told (met c.args.series c.args.tallies c.args.number c.args.book.now) c.args.t c.args.e c.args.records.now c.quotes_of-quotes.result (judged_of c.judge.result)
+told c =
+    let a = c.args in
+    told_of _ _ _ _ c.requires _ _ _ _ _ c.best_bid-bid.ensures c.best_offer-offer.ensures
+    c.quotes_of-quotes.ensures c.resting_rows-resting.ensures c.judge.ensures
 
 pub overflow_cast-number : goal.overflow_cast-number
 overflow_cast-number c =
-    let a = c.args in
-    let f = lent_floor a.series a.tallies a.number a.sides a.prices a.sizes a.owners a.numbers in
-    let bid = c.best_bid-bid.ensures a.owners.now a.numbers.now in
-    let offer = c.best_offer-offer.ensures a.owners.now a.numbers.now in
-    let quoted = quoted_is f _ _ _ bid offer c.quotes_of-quotes.ensures in
-    let stands = stands_is f a.t _ c.resting_rows-resting.ensures in
-    omega (arith, can_rest f _ _ _ c.requires _ quoted _ stands _ c.judge-verdict.ensures _ c.in-Rests.is)
+    let rests = passes _ _ (passed.Rests c.in-Ok-Rests.o) c.in-Ok-Rests.is c.in-Ok-Rests.field-0-is in
+    omega (arith, (told (goal.at.overflow_cast-number c).After-judge).left _ rests)
 
-pub overflow_cast-number-in-Trades : goal.overflow_cast-number-in-Trades
-overflow_cast-number-in-Trades c =
-    let a = c.args in
-    let f = lent_floor a.series a.tallies a.number a.sides a.prices a.sizes a.owners a.numbers in
-    let bid = c.best_bid-bid.ensures a.owners.now a.numbers.now in
-    let offer = c.best_offer-offer.ensures a.owners.now a.numbers.now in
-    let quoted = quoted_is f _ _ _ bid offer c.quotes_of-quotes.ensures in
-    let stands = stands_is f a.t _ c.resting_rows-resting.ensures in
-    omega (arith, (can_trade f _ _ _ c.requires _ quoted _ stands _ c.judge-verdict.ensures _ _ c.in-Trades.is).numbered)
-
-pub rest_order-requires : goal.rest_order-requires
-rest_order-requires c = record { t_lt_tenants = c.requires.tenant; whole = sound_whole c.requires.ready.book }
+pub overflow_cast-number-in-Ok-Trades : goal.overflow_cast-number-in-Ok-Trades
+overflow_cast-number-in-Ok-Trades c =
+    let trades = passes _ _ (passed.Trades c.in-Ok-Trades.o c.in-Ok-Trades.bound) c.in-Ok-Trades.is c.in-Ok-Trades.field-0-is in
+    omega (arith, ((told (goal.at.overflow_cast-number-in-Ok-Trades c).After-judge).ready _ _ trades).numbered)
 
 pub trade_order-requires : goal.trade_order-requires
 trade_order-requires c =
-    let a = c.args in
-    let f = lent_floor a.series a.tallies a.number a.sides a.prices a.sizes a.owners a.numbers in
-    let bid = c.best_bid-bid.ensures a.owners.now a.numbers.now in
-    let offer = c.best_offer-offer.ensures a.owners.now a.numbers.now in
-    let quoted = quoted_is f _ _ _ bid offer c.quotes_of-quotes.ensures in
-    let stands = stands_is f a.t _ c.resting_rows-resting.ensures in
-    can_trade f _ _ _ c.requires _ quoted _ stands _ c.judge-verdict.ensures _ _ c.in-Trades.is
+    (told (goal.at.trade_order-requires c).After-judge).ready _ _
+    (passes _ _ (passed.Trades c.in-Ok-Trades.o c.in-Ok-Trades.bound) c.in-Ok-Trades.is c.in-Ok-Trades.field-0-is)
 
-pub returns-in-TurnedDown : goal.returns-in-TurnedDown
-returns-in-TurnedDown c =
-    let a = c.args in
-    let f = lent_floor a.series a.tallies a.number a.sides a.prices a.sizes a.owners a.numbers in
-    let bid = c.best_bid-bid.ensures a.owners.now a.numbers.now in
-    let offer = c.best_offer-offer.ensures a.owners.now a.numbers.now in
-    let quoted = quoted_is f _ _ _ bid offer c.quotes_of-quotes.ensures in
-    let stands = stands_is f a.t _ c.resting_rows-resting.ensures in
-    c.turned_down.ensures a.series a.number _ _
-    ∙ by_verdict_lem f _ _ _ c.requires _ quoted _ stands _ c.judge-verdict.ensures _ c.in-TurnedDown.is
+pub returns-in-Err : goal.returns-in-Err
+returns-in-Err c = c.turned_down.ensures c.args.series c.args.number _ _ ∙ (told (goal.at.returns-in-Err c).After-judge).makes _ (ap judged_of c.in-Err.is)
 
-pub returns-in-Rests : goal.returns-in-Rests
-returns-in-Rests c =
-    let a = c.args in
-    let f = lent_floor a.series a.tallies a.number a.sides a.prices a.sizes a.owners a.numbers in
-    let bid = c.best_bid-bid.ensures a.owners.now a.numbers.now in
-    let offer = c.best_offer-offer.ensures a.owners.now a.numbers.now in
-    let quoted = quoted_is f _ _ _ bid offer c.quotes_of-quotes.ensures in
-    let stands = stands_is f a.t _ c.resting_rows-resting.ensures in
+pub returns-in-Ok-Rests : goal.returns-in-Ok-Rests
+returns-in-Ok-Rests c =
     c.rest_order.ensures _ _
-    ∙ by_verdict_lem f _ _ _ c.requires _ quoted _ stands _ c.judge-verdict.ensures _ c.in-Rests.is
+    ∙ (told (goal.at.returns-in-Ok-Rests c).After-judge).makes _ (passes _ _ (passed.Rests c.in-Ok-Rests.o) c.in-Ok-Rests.is c.in-Ok-Rests.field-0-is)
 
-pub returns-in-Trades : goal.returns-in-Trades
-returns-in-Trades c =
-    let a = c.args in
-    let f = lent_floor a.series a.tallies a.number a.sides a.prices a.sizes a.owners a.numbers in
-    let bid = c.best_bid-bid.ensures a.owners.now a.numbers.now in
-    let offer = c.best_offer-offer.ensures a.owners.now a.numbers.now in
-    let quoted = quoted_is f _ _ _ bid offer c.quotes_of-quotes.ensures in
-    let stands = stands_is f a.t _ c.resting_rows-resting.ensures in
+pub returns-in-Ok-Trades : goal.returns-in-Ok-Trades
+returns-in-Ok-Trades c =
     c.trade_order.ensures
-    ∙ by_verdict_lem f _ _ _ c.requires _ quoted _ stands _ c.judge-verdict.ensures _ c.in-Trades.is
+    ∙ (told (goal.at.returns-in-Ok-Trades c).After-judge).makes _
+    (passes _ _ (passed.Trades c.in-Ok-Trades.o c.in-Ok-Trades.bound) c.in-Ok-Trades.is c.in-Ok-Trades.field-0-is)

@@ -1,26 +1,15 @@
 -- `dealing::deal::trade_order` meets its contract: what settling, the disposition and the rest's disposal ensure is the
 -- definition.
 use mathlib.Core.Path.{refl}
-use borrow.Author.Rules.{rules}
 use Rattle.dealing.specs.ReachLaws.{floor_quoted}
-use Rattle.dealing.specs.TradeLaws.{settled_most, traded_whole, traded_is}
+use Rattle.dealing.specs.TradeLaws.{settled_most, traded_is}
 use Rattle.dealing.proofs.deal.trade_order.Goals as goal
 
-pub settle_in_reach-done-requires : goal.settle_in_reach-done-requires
-settle_in_reach-done-requires c =
-    let can = c.requires in
-    record { settles = can.settles; quoted = floor_quoted _ _ can.quoted }
+pub settle_in_reach-done-requires-clause-quoted : goal.settle_in_reach-done-requires-clause-quoted
+settle_in_reach-done-requires-clause-quoted c = floor_quoted _ _ c.requires.quoted
 
 pub overflow_sub-left : goal.overflow_sub-left
 overflow_sub-left c = settled_most _ _ _ _ _ _ _ c.settle_in_reach-done.ensures.value
-
-pub disposition-d-requires : goal.disposition-d-requires
-disposition-d-requires c = search rules
-
-pub dispose-requires : goal.dispose-requires
-dispose-requires c =
-    let can = c.requires.settles in
-    record { t_lt_tenants = can.tenant; whole = traded_whole _ _ _ _ _ can.sound c.settle_in_reach-done.ensures.numbers_value }
 
 pub returns : goal.returns
 returns c =

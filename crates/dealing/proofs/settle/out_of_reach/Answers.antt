@@ -1,13 +1,21 @@
--- `dealing::settle::out_of_reach` meets its contract, by the side.
+-- `dealing::settle::out_of_reach` meets its contract, by the side and by whether there is a quote.
 use borrow.Author.Tests.{eq-eqb, ne_eqb}
-use Rattle.units.specs.Tests.{pick}
+use Rattle.units.specs.Tests.{◌or◌, pick}
 use Rattle.dealing.specs.Reach.{out_of_reach}
 use Rattle.dealing.proofs.settle.out_of_reach.Goals as goal
 
-pub returns-then-side-eq-BUY : goal.returns-then-side-eq-BUY
-unfolding out_of_reach pick
-returns-then-side-eq-BUY c = rw (eq-eqb _ 1 c.if-side-eq-BUY.true) c.either.ensures
+pub returns-then-q-eq0 : goal.returns-then-q-eq0
+unfolding out_of_reach ◌or◌ pick
+returns-then-q-eq0 c = simp (eq-eqb _ _ c.if-side-eq-BUY.true, eq-eqb _ _ c.if-q-eq0.true)
 
-pub returns-else-side-eq-BUY : goal.returns-else-side-eq-BUY
-unfolding out_of_reach pick
-returns-else-side-eq-BUY c = rw (ne_eqb _ 1 c.if-side-eq-BUY.false) c.either-else-side-eq-BUY.ensures
+pub returns-else-q-eq0 : goal.returns-else-q-eq0
+unfolding out_of_reach ◌or◌ pick
+returns-else-q-eq0 c = simp (eq-eqb _ _ c.if-side-eq-BUY.true, ne_eqb _ _ c.if-q-eq0.false)
+
+pub returns-then-q-eq0-2 : goal.returns-then-q-eq0-2
+unfolding out_of_reach ◌or◌ pick
+returns-then-q-eq0-2 c = simp (ne_eqb _ _ c.if-side-eq-BUY.false, eq-eqb _ _ c.if-q-eq0-2.true)
+
+pub returns-else-q-eq0-2 : goal.returns-else-q-eq0-2
+unfolding out_of_reach ◌or◌ pick
+returns-else-q-eq0-2 c = simp (ne_eqb _ _ c.if-side-eq-BUY.false, ne_eqb _ _ c.if-q-eq0-2.false)

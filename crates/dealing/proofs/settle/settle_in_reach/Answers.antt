@@ -8,6 +8,6 @@ pub returns-then-out_of_reach : goal.returns-then-out_of_reach
 returns-then-out_of_reach c =
     let a = c.args in
     let same =
-    unreached _ _ _ a.sides.now a.prices.now a.sizes.now a.owners.now a.numbers.now _ c.requires.settles _ c.requires.quoted _ a.allocation
+    unreached _ _ _ a.book.now.sides a.book.now.prices a.book.now.sizes a.book.now.owners a.book.now.numbers _ c.requires.settles _ c.requires.quoted _ a.allocation
     (sym c.out_of_reach.ensures ∙ c.if-out_of_reach.true) in
     record { numbers_value = same.0; records_after = same.1.0; value = same.1.1 }

@@ -15,4 +15,4 @@ returns-then-b-eq0 c = simp (ne_eqb _ _ c.if-a-eq0.false, eq-eqb _ _ c.if-b-eq0.
 
 pub returns : goal.returns
 unfolding pick lower_offer
-returns c = simp (ne_eqb _ _ c.if-a-eq0.false, ne_eqb _ _ c.if-b-eq0.false) (ap cents c.lesser.ensures)
+returns c = simp (ne_eqb _ _ c.if-a-eq0.false, ne_eqb _ _ c.if-b-eq0.false) (ap cents c.min.ensures)

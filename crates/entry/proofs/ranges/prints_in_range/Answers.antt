@@ -1,7 +1,13 @@
--- `entry::ranges::prints_in_range` meets its contract: the calls are the words of the rule.
+-- `entry::ranges::prints_in_range` meets its contract: the tests are those of the rule.
+use Rattle.std.proofs.Common.{rules}
+use Rattle.units.specs.Tests.{◌and◌}
 use Rattle.entry.specs.Settings.{prints_in_range}
 use Rattle.entry.proofs.ranges.prints_in_range.Goals as goal
 
-pub returns : goal.returns
-unfolding prints_in_range
-returns c = cc
+pub returns-then-s-le-HIGHEST : goal.returns-then-s-le-HIGHEST
+unfolding prints_in_range ◌and◌
+returns-then-s-le-HIGHEST c = search rules
+
+pub returns-else-s-le-HIGHEST : goal.returns-else-s-le-HIGHEST
+unfolding prints_in_range ◌and◌
+returns-else-s-le-HIGHEST c = search rules

@@ -1,30 +1,19 @@
--- `figures::reading::end_number` meets its contract, by its test.
-use Rattle.std.proofs.Common.{sym, ◌∙◌, arith}
-use Rattle.units.specs.Tests.{pick}
+-- `figures::reading::end_number` meets its contract, by its tests.
+use Rattle.std.proofs.Common.{⊎_elim, lt-ltb, le-ltb}
+use Rattle.units.specs.Tests.{◌and◌, pick}
 use Rattle.figures.specs.Reading.{can_end, end_of, numbers_after}
-use Rattle.figures.specs.ReadingLaws.{can_fits}
 use Rattle.figures.proofs.reading.end_number.Goals as goal
 
-pub offset_bounds-numbers-count : goal.offset_bounds-numbers-count
-unfolding can_end
-offset_bounds-numbers-count c = omega (arith, can_fits c.args.place _ (sym c.both.ensures ∙ c.if-both.true))
+pub returns-then-count-numbers : goal.returns-then-count-numbers
+unfolding can_end end_of numbers_after ◌and◌ pick
+returns-then-count-numbers c =
+    let room = lt-ltb _ _ c.if-count-numbers.true in
+    record { answer = rw (c.if-place.true, room); kept = rw (c.if-place.true, room) }
 
-pub bounds-numbers-count : goal.bounds-numbers-count
-unfolding can_end
-bounds-numbers-count c = can_fits c.args.place _ (sym c.both.ensures ∙ c.if-both.true)
-
-pub overflow_add-result : goal.overflow_add-result
-unfolding can_end
-overflow_add-result c = omega (arith, can_fits c.args.place _ (sym c.both.ensures ∙ c.if-both.true))
-
-pub returns-then-both : goal.returns-then-both
-unfolding can_end end_of numbers_after pick
-returns-then-both c =
-    let can = sym c.both.ensures ∙ c.if-both.true in
-    record { answer = rw can; kept = rw can }
-
-pub returns-else-both : goal.returns-else-both
-unfolding can_end end_of numbers_after pick
-returns-else-both c =
-    let cannot = sym c.both.ensures ∙ c.if-both.false in
-    record { answer = rw cannot c.refused.ensures; kept = rw cannot }
+pub returns-else-place : goal.returns-else-place
+unfolding can_end end_of numbers_after ◌and◌ pick
+returns-else-place c =
+    ⊎_elim
+    (λ (e, h). let full = le-ltb _ _ h in record { answer = rw (e, full); kept = rw (e, full) })
+    (λ e. record { answer = rw e; kept = rw e })
+    c.else-place.either

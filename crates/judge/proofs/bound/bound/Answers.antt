@@ -1,14 +1,14 @@
--- `judge::bound::bound` meets its contract, by the side.
-use Rattle.std.proofs.Common.{ap, eq-eqb, ne_eqb}
-use Rattle.units.specs.Units.{cents}
+-- `judge::bound::bound` meets its contract, test by test.
+use Rattle.std.proofs.Common.{arith}
+use Rattle.std.proofs.lemmas.Grind.{common_steps}
 use Rattle.units.specs.Tests.{pick}
 use Rattle.judge.specs.Bound.{bound_of}
 use Rattle.judge.proofs.bound.bound.Goals as goal
 
 pub returns-then-e-eq-BUY : goal.returns-then-e-eq-BUY
-unfolding pick bound_of
-returns-then-e-eq-BUY c = simp (eq-eqb _ _ c.if-e-eq-BUY.true) (ap cents c.buy_bound.ensures)
+unfolding bound_of pick
+returns-then-e-eq-BUY c = grind (arith, common_steps)
 
 pub returns-else-e-eq-BUY : goal.returns-else-e-eq-BUY
-unfolding pick bound_of
-returns-else-e-eq-BUY c = simp (ne_eqb _ _ c.if-e-eq-BUY.false) (ap cents c.sell_bound.ensures)
+unfolding bound_of pick
+returns-else-e-eq-BUY c = grind (arith, common_steps)

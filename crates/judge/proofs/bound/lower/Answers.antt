@@ -1,12 +1,14 @@
--- `judge::bound::lower` meets its contract, by the test.
+-- `judge::bound::lower` meets its contract, test by test.
+use Rattle.std.proofs.Common.{arith}
+use Rattle.std.proofs.lemmas.Grind.{common_steps}
 use Rattle.units.specs.Tests.{pick}
 use Rattle.units.specs.Cases.{lower_if}
 use Rattle.judge.proofs.bound.lower.Goals as goal
 
 pub returns-then-test : goal.returns-then-test
-unfolding pick lower_if
-returns-then-test c = rw c.if-test.true c.lesser_wide.ensures
+unfolding lower_if pick
+returns-then-test c = grind (arith, common_steps)
 
 pub returns-else-test : goal.returns-else-test
-unfolding pick lower_if
-returns-else-test c = rw c.if-test.false
+unfolding lower_if pick
+returns-else-test c = grind (arith, common_steps)

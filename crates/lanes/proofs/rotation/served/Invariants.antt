@@ -1,5 +1,4 @@
 -- What the loop of `lanes::rotation::served` keeps.
-use Prim.Native.Nat.{◌-◌}
 use Rattle.units.specs.Units.{tenants}
 use Rattle.units.specs.Loops.{Sought}
 use Rattle.lanes.specs.Rotation.{on, waits}
@@ -7,6 +6,3 @@ use Rattle.lanes.proofs.rotation.served.Given as goal
 
 abbrev pub invariant-loop-d : goal.invariant-loop-d
 invariant-loop-d l = Sought tenants (λ i. waits l.l (on l.l.place i)) l.d
-
-abbrev pub decreases-loop-d : goal.decreases-loop-d
-decreases-loop-d l = tenants - l.d

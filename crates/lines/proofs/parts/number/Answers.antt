@@ -8,7 +8,7 @@ pub returns-then-n-lt10 : goal.returns-then-n-lt10
 returns-then-n-lt10 c = laid_within _ _ {m = 2} (omega arith) (low_laid _ _ _ c.if-n-lt10.true c.requires.long)
 
 pub digits-requires : goal.digits-requires
-digits-requires c = number_fits _ _ _ 10 (digits_most_32 c.args.n (omega arith)) c.requires
+digits-requires c = rw c.from.ensures (number_fits _ _ _ 10 (digits_most_32 c.args.n (omega arith)) c.requires)
 
 pub returns : goal.returns
-returns c = number_laid _ _ _ 10 _ _ (digits_most_32 c.args.n (omega arith)) c.requires.long c.digits.ensures
+returns c = number_laid _ _ _ 10 _ _ (digits_most_32 c.args.n (omega arith)) c.requires.long (rw c.from.ensures at c.digits.ensures)

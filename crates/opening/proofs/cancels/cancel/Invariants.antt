@@ -1,5 +1,4 @@
 -- What the loop of `opening::cancels::cancel` keeps.
-use Prim.Native.Nat.{◌-◌}
 use Rattle.opening.specs.Opening.{kept_by}
 use Rattle.rows.specs.Rows.{rows}
 use Rattle.units.specs.Loops.{Replaced}
@@ -8,6 +7,3 @@ use Rattle.opening.proofs.cancels.cancel.Given as goal
 
 abbrev pub invariant-loop-i : goal.invariant-loop-i
 invariant-loop-i l = Replaced rows (λ j. kept_by l.cut (at l.sides j) (at l.prices j) (at l.initial.sizes j)) l.initial.sizes l.i l.sizes
-
-abbrev pub decreases-loop-i : goal.decreases-loop-i
-decreases-loop-i l = 216 - l.i

@@ -1,15 +1,22 @@
 -- `opening::cancels::kept` meets its contract, by which test says that the row goes.
+use mathlib.Core.Path.{sym, ◌∙◌}
+use Rattle.std.proofs.Common.{true≢false}
 use Rattle.opening.specs.Opening.{kept_by}
 use Rattle.opening.proofs.cancels.kept.Goals as goal
+use Rattle.opening.proofs.cancels.kept.Goals.{then-buy_cut, else-buy_cut}
 
-pub returns-then-buy : goal.returns-then-buy
+pub returns-then-sell_cut : goal.returns-then-sell_cut
 unfolding kept_by
-returns-then-buy c = rw (← c.buy_cut-buy.ensures, ← c.sell_cut-sell.ensures) (simp c.if-buy.true)
+returns-then-sell_cut c =
+    elim c.if-buy_cut.branch [
+      | then-buy_cut w ↦ simp (sym c.buy_cut.ensures ∙ w.if-buy_cut.true)
+      | else-buy_cut w ↦ simp (sym c.buy_cut.ensures ∙ w.if-buy_cut.false, sym w.sell_cut.ensures ∙ sym w.value-is ∙ c.if-sell_cut.true)
+    ]
 
-pub returns-then-sell : goal.returns-then-sell
+pub returns-else-sell_cut : goal.returns-else-sell_cut
 unfolding kept_by
-returns-then-sell c = rw (← c.buy_cut-buy.ensures, ← c.sell_cut-sell.ensures) (simp (c.if-buy.false, c.if-sell.true))
-
-pub returns-else-sell : goal.returns-else-sell
-unfolding kept_by
-returns-else-sell c = rw (← c.buy_cut-buy.ensures, ← c.sell_cut-sell.ensures) (simp (c.if-buy.false, c.if-sell.false))
+returns-else-sell_cut c =
+    elim c.if-buy_cut.branch [
+      | then-buy_cut w ↦ absurd (true≢false (sym w.if-buy_cut.true ∙ (sym w.value-is ∙ c.if-sell_cut.false)))
+      | else-buy_cut w ↦ simp (sym c.buy_cut.ensures ∙ w.if-buy_cut.false, sym w.sell_cut.ensures ∙ sym w.value-is ∙ c.if-sell_cut.false)
+    ]

@@ -6,4 +6,4 @@ pub loop-i-init : goal.loop-i-init
 loop-i-init c = store_starts _ _
 
 pub loop-i-preserved : goal.loop-i-preserved
-loop-i-preserved c = store_goes_on _ _ _ _ _ c.loop-i.invariant c.loop-i-test.true c.greater.ensures
+loop-i-preserved c = store_goes_on _ _ _ _ _ c.loop-i.invariant c.loop-i-test.true c.max.ensures

@@ -8,4 +8,4 @@ pub returns : goal.returns
 unfolding away_printed
 returns c =
     λ b entries can.
-    call_replayed _ _ away_line _ _ _ _ (c.away-done.ensures.exact b entries) (c.away-done.ensures.sound b entries can.sound) c.away_line-end.ensures
+    call_replayed _ _ away_line _ _ _ _ (c.away-answer.ensures.exact b entries) (c.away-answer.ensures.sound b entries can.sound) (rw c.code.ensures at c.away_line.ensures)

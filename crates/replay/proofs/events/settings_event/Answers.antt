@@ -8,4 +8,4 @@ pub returns : goal.returns
 unfolding settings_printed
 returns c =
     let can = c.requires in
-    call_replayed _ _ set_line _ _ _ _ c.settings-done.ensures.exact (c.settings-done.ensures.sound can.sound) c.set_line-end.ensures
+    call_replayed _ _ set_line _ _ _ _ c.settings-answer.ensures.exact (c.settings-answer.ensures.sound can.sound) (rw c.code.ensures at c.set_line.ensures)

@@ -16,5 +16,5 @@ returns c =
     let a = c.args in
     let given = take_lent _ _ a.given.now c.numbers_of-n.ensures in
     call_replayed _ _ submit_line _ _ _ _
-    (c.submit-done.ensures.exact b ∙ ap (λ (l : List ℕ). submit_of (market_of a.s b a.entries.now) a.tenant a.count l) given)
-    (c.submit-done.ensures.sound b can.sound) c.submit_line-end.ensures
+    (c.submit-answer.ensures.exact b ∙ ap (λ (l : List ℕ). submit_of (market_of a.s.now b a.entries.now) a.tenant a.count l) given)
+    (c.submit-answer.ensures.sound b can.sound) (rw c.code.ensures at c.submit_line.ensures)

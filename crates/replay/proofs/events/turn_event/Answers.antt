@@ -2,8 +2,8 @@
 use mathlib.Core.Path.{◌≡◌, ap}
 use native.Mathlib.Omega.{arith}
 use lib.ListN.{length}
-use Rattle.session.specs.declared.TurnAnswer.{TurnAnswer}
-use Rattle.session.specs.Market.{market_lent_turning}
+use Rattle.session.specs.TurnAnswer.{TurnAnswer}
+use Rattle.session.specs.Market.{market_in}
 use Rattle.session.specs.Turn.{fills_in}
 use Rattle.fills.specs.Calls.{Stored, blank, empty_row}
 use Rattle.fills.specs.CallsLaws.{turn_few}
@@ -17,10 +17,10 @@ tenant_is e = ap (λ (x : Stored TurnAnswer). tenant_of x.answer) e
 fills_are : {d e : Stored TurnAnswer} → d ≡ e → fills_in d.answer ≡ fills_in e.answer
 fills_are e = ap (λ (x : Stored TurnAnswer). fills_in x.answer) e
 
-pub turn_lines-end-requires : goal.turn_lines-end-requires
-turn_lines-end-requires c =
+pub turn_lines-requires : goal.turn_lines-requires
+turn_lines-requires c =
     let a = c.args in
-    let m = market_lent_turning a.s a.sides a.prices a.sizes a.owners a.numbers a.entries in
+    let m = market_in a.s.now a.book.now a.entries.now in
     let done = c.turn_on_row-done.ensures.exact in
     record {
       room = c.requires.room;
@@ -29,4 +29,4 @@ turn_lines-end-requires c =
     }
 
 pub returns : goal.returns
-returns c = turn_replayed _ _ _ _ _ _ c.turn_on_row-done.ensures.exact c.turn_on_row-done.ensures.sound c.turn_lines-end.ensures
+returns c = turn_replayed _ _ _ _ _ _ c.turn_on_row-done.ensures.exact c.turn_on_row-done.ensures.sound c.turn_lines.ensures

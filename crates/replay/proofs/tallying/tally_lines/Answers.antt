@@ -6,4 +6,4 @@ pub loop-t-init : goal.loop-t-init
 loop-t-init c = tallies_start _ _ _ c.requires
 
 pub loop-t-preserved : goal.loop-t-preserved
-loop-t-preserved c = tallies_go_on _ _ _ _ _ _ c.loop-t.invariant _ _ c.loop-t-test.true c.line_of-next.ensures
+loop-t-preserved c = tallies_go_on _ _ _ _ _ _ c.loop-t.invariant _ _ c.loop-t-test.true c.line_of-end.ensures

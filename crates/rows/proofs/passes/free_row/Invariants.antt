@@ -1,5 +1,4 @@
 -- What the loop of `rows::passes::free_row` keeps.
-use Prim.Native.Nat.{◌-◌}
 use lib.Dec.{eqb}
 use Rattle.rows.specs.Rows.{rows}
 use Rattle.units.specs.Loops.{Sought}
@@ -8,6 +7,3 @@ use Rattle.rows.proofs.passes.free_row.Given as goal
 
 abbrev pub invariant-loop-i : goal.invariant-loop-i
 invariant-loop-i l = Sought rows (λ j. eqb (at l.sizes j) 0) l.i
-
-abbrev pub decreases-loop-i : goal.decreases-loop-i
-decreases-loop-i l = rows - l.i

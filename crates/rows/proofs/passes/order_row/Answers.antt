@@ -1,5 +1,5 @@
 -- `rows::passes::order_row` meets its contract: no row passed is the order.
-use mathlib.Core.Path.{sym, ◌∙◌}
+use Rattle.std.proofs.Common.{◌≡◌, sym, ◌∙◌, arith}
 use Rattle.rows.specs.Passes.{order_row}
 use Rattle.units.specs.Loops.{seek_finds, seek_ends}
 use Rattle.rows.proofs.passes.order_row.Goals as goal
@@ -10,4 +10,6 @@ returns-then-is_order c = seek_finds _ _ _ c.loop-i.invariant c.loop-i-test.true
 
 pub returns : goal.returns
 unfolding order_row
-returns c = seek_ends _ _ _ c.loop-i.invariant c.loop-i-test.false
+returns c =
+    let last : 216 ≡ c.loop-i.i = omega (arith, c.loop-i.invariant.0, c.loop-i-test.false) in
+    last ∙ seek_ends _ _ _ c.loop-i.invariant c.loop-i-test.false

@@ -1,5 +1,5 @@
 -- What the loop of `rows::passes::resting_rows` keeps.
-use Prim.Native.Nat.{◌≤◌, ◌-◌}
+use Prim.Native.Nat.{◌≤◌}
 use Rattle.rows.specs.Rows.{rows, rests_for}
 use Rattle.units.specs.Loops.{Passed}
 use Rattle.units.specs.Picked.{keep}
@@ -8,6 +8,3 @@ use Rattle.rows.proofs.passes.resting_rows.Given as goal
 
 abbrev pub invariant-loop-i : goal.invariant-loop-i
 invariant-loop-i l = Passed rows (λ j. keep (rests_for l.tenant (at l.owners j) (at l.sizes j)) 1) l.i l.count × (l.count ≤ l.i)
-
-abbrev pub decreases-loop-i : goal.decreases-loop-i
-decreases-loop-i l = rows - l.i

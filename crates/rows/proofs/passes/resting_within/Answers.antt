@@ -12,7 +12,7 @@ loop-i-init c = (sum_starts _ _, omega arith)
 
 pub loop-i-preserved : goal.loop-i-preserved
 unfolding resting_within
-loop-i-preserved c = (sum_goes_on _ _ _ _ _ c.loop-i.invariant.0 c.loop-i-test.true (c.wide-sum.ensures ∙ c.open_size-tradable.ensures), omega arith)
+loop-i-preserved c = (sum_goes_on _ _ _ _ _ c.loop-i.invariant.0 c.loop-i-test.true (c.from-sum.ensures ∙ c.open_size-tradable.ensures), omega arith)
 
 pub returns : goal.returns
 unfolding resting_within

@@ -1,5 +1,5 @@
 -- `rows::row::rests_for` meets its contract, by the size.
-use borrow.Author.Tests.{lt-ltb, le-ltb}
+use Rattle.std.proofs.Common.{lt-ltb, le-ltb}
 use Rattle.rows.specs.Rows.{rests_for}
 use Rattle.rows.proofs.row.rests_for.Goals as goal
 

@@ -1,16 +1,21 @@
--- `sheet::bytes::is_word` meets its contract: the bytes passed are the same. The measure is what is left of the word.
-use Rattle.std.proofs.Common.{arith}
-use Rattle.sheet.specs.BytesLaws.{other_length, compare_goes_on, compare_fails, compare_ends}
+-- `sheet::bytes::is_word` meets its contract: the bytes are the same, one by one.
+use Rattle.std.proofs.Common.{◌≡◌, ◌∙◌, refl, Bool, true, false, ◌&&◌, List, [], ◌∷◌, ℕ, eqb}
+use Rattle.std.specs.Cmp.Lexicographic.{pointwise}
+use Rattle.units.specs.Tests.{◌and◌}
+use Rattle.sheet.specs.Bytes.{same}
 use Rattle.sheet.proofs.bytes.is_word.Goals as goal
 
-pub returns-then-s-word : goal.returns-then-s-word
-returns-then-s-word c = other_length _ _ (λ e. omega arith)
+and_is : (a b : Bool) → (a && b) ≡ (a and b)
+unfolding ◌and◌
+and_is true b = refl
+and_is false b = refl
 
-pub returns-then-s-i : goal.returns-then-s-i
-returns-then-s-i c = compare_fails _ _ _ c.loop-i.invariant c.loop-i-test.true c.if-s-i.true
-
-pub loop-i-preserved : goal.loop-i-preserved
-loop-i-preserved c = compare_goes_on _ _ _ c.loop-i.invariant c.loop-i-test.true c.if-s-i.false
+same_is : (s t : List ℕ) → pointwise eqb s t ≡ same s t
+unfolding same
+same_is [] [] = refl
+same_is [] (b ∷ t) = refl
+same_is (a ∷ s) [] = refl
+same_is (a ∷ s) (b ∷ t) = rw (same_is s t) (and_is _ _)
 
 pub returns : goal.returns
-returns c = compare_ends _ _ _ c.loop-i.invariant c.loop-i-test.false
+returns c = c.eq.ensures ∙ same_is _ _

@@ -1,7 +1,13 @@
--- `sheet::line::is_kind` meets its contract: its rule, word for word.
+-- `sheet::line::is_kind` meets its contract: either word.
+use Rattle.std.proofs.Common.{sym, ◌∙◌}
+use Rattle.units.specs.Tests.{◌or◌}
 use Rattle.sheet.specs.Line.{is_kind}
 use Rattle.sheet.proofs.line.is_kind.Goals as goal
 
-pub returns : goal.returns
-unfolding is_kind
-returns c = cc
+pub returns-then-is_word : goal.returns-then-is_word
+unfolding is_kind ◌or◌
+returns-then-is_word c = simp (sym c.is_word.ensures ∙ c.if-is_word.true) c.if-is_word.true
+
+pub returns-else-is_word : goal.returns-else-is_word
+unfolding is_kind ◌or◌
+returns-else-is_word c = simp (sym c.is_word.ensures ∙ c.if-is_word.false) c.is_word-else-is_word.ensures

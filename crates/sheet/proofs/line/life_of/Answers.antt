@@ -1,7 +1,13 @@
--- `sheet::line::life_of` meets its contract: its rule, word for word.
+-- `sheet::line::life_of` meets its contract, by its test.
+use Rattle.std.proofs.Common.{sym, ◌∙◌}
+use Rattle.units.specs.Tests.{pick}
 use Rattle.sheet.specs.Line.{life_of}
 use Rattle.sheet.proofs.line.life_of.Goals as goal
 
-pub returns : goal.returns
-unfolding life_of
-returns c = cc
+pub returns-then-is_word : goal.returns-then-is_word
+unfolding life_of pick
+returns-then-is_word c = simp (sym c.is_word.ensures ∙ c.if-is_word.true)
+
+pub returns-else-is_word : goal.returns-else-is_word
+unfolding life_of pick
+returns-else-is_word c = simp (sym c.is_word.ensures ∙ c.if-is_word.false)

@@ -1,12 +1,21 @@
 -- `settings` meets its contract: eleven numbers were stored in as many places, and make the settings.
 use Rattle.std.proofs.Common.{refl, ap}
+use Rattle.std.proofs.lemmas.Result.{err_from_is_err_and}
 use Rattle.tape.specs.declared.Event.TheVariants.{Settings}
 use Rattle.tape.specs.Tape.{settings_numbers, settings_of, settings}
-use Rattle.tape.specs.Steps.{numbers_read}
+use Rattle.tape.specs.Steps.{read_after, refused_after, numbers_read}
 use Rattle.tape.proofs.events.settings.Goals as goal
+
+pub returns-in_err-end : goal.returns-in_err-end
+unfolding settings
+returns-in_err-end c =
+    let e = c.read_several.ensures in
+    let told = err_from_is_err_and c.from_residual.result c.from_residual.ensures.1 in
+    λ last.
+    rw (told.1, told.2) (numbers_read settings_numbers (λ v. Settings (settings_of v)) _ last _ _ refl e.answer e.kept refl (refused_after _ c.in_err-end.was))
 
 pub returns : goal.returns
 unfolding settings
 returns c =
-    λ last.
-    numbers_read settings_numbers (λ v. Settings (settings_of v)) _ last _ _ refl c.read_several-all.ensures.answer c.read_several-all.ensures.kept (ap Settings c.settings_of.ensures) c.made.ensures
+    let e = c.read_several.ensures in
+    λ last. numbers_read settings_numbers (λ v. Settings (settings_of v)) _ last _ _ refl e.answer e.kept (ap Settings c.settings_of.ensures) (read_after _ c.in_ok-end.was)

@@ -1,6 +1,7 @@
 -- `read_several` meets its contract. The invariant: what is to be found is what i numbers and a reading on at `next`
 -- give.
-use Rattle.std.proofs.Common.{sym, ◌∙◌, length-set, arith}
+use Rattle.std.proofs.Common.{sym, ap, ◌∙◌, length-set, arith, Err}
+use Rattle.std.proofs.lemmas.Result.{IfErr-at_err}
 use Rattle.tape.specs.Several.{refused, read, several_more, several_refused, several_end, stored_more, stored_past, stored_refused, stored_end}
 use Rattle.tape.proofs.several.read_several.Goals.{then-i-out, else-i-out}
 use Rattle.tape.proofs.several.read_several.Goals as goal
@@ -9,9 +10,9 @@ pub returns-in_default : goal.returns-in_default
 returns-in_default c =
     let l = c.loop-i in
     let a = c.args in
-    let no = refused a.s.now l.next c.read-one.ensures c.in_default.is c.refusal.ensures in
+    let no = refused a.s.now l.next c.read-one.ensures c.in_default.is in
     record {
-      answer = sym (l.invariant.1 ∙ several_refused a.n l.i a.s.now l.next (omega arith) no);
+      answer = ap Err (IfErr-at_err _ c.in_default.is c.refused.ensures) ∙ sym (l.invariant.1 ∙ several_refused a.n l.i a.s.now l.next (omega arith) no);
       kept = sym (l.invariant.2 ∙ stored_refused a.n l.i a.s.now l.next l.out (omega arith) no);
     }
 
@@ -19,7 +20,7 @@ pub loop-i-preserved : goal.loop-i-preserved
 loop-i-preserved c =
     let l = c.loop-i in
     let a = c.args in
-    let yes' = read a.s.now l.next c.read-one.ensures c.in-Read.is in
+    let yes' = read a.s.now l.next c.read-one.ensures c.in-Ok.is in
     let rest = l.invariant.1 ∙ several_more a.n l.i a.s.now l.next (omega arith) yes' in
     elim c.if-i-out.branch [
       | then-i-out w ↦ (

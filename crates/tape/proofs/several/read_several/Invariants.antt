@@ -6,6 +6,3 @@ use Rattle.tape.proofs.several.read_several.Given as goal
 
 abbrev pub invariant-loop-i : goal.invariant-loop-i
 invariant-loop-i l = (length l.out ≡ length l.initial.out) × (several_at l.n l.s l.at ≡ several_at (l.n - l.i) l.s l.next) × (stored (values_at l.n l.s l.at) l.initial.out ≡ Stored l.n l.i l.s l.next l.out)
-
-abbrev pub decreases-loop-i : goal.decreases-loop-i
-decreases-loop-i l = l.n - l.i

@@ -8,13 +8,13 @@ use Rattle.window.proofs.writing.write_out.Goals as goal
 pub loop-at-preserved : goal.loop-at-preserved
 loop-at-preserved g c =
     let at = c.loop-at.at in
-    let w = c.write_some-written in
+    let w = c.in-Some in
     let bytes = c.args.bytes.now in
     let was = g.W.Write.contents c.args.writer.now in
-    let is = g.W.Write.contents w.new.writer in
-    let e : w.result.to ≡ at + (w.result.to - at) = omega (arith, w.ensures.onward) in (
+    let is = g.W.Write.contents c.write_some.new.writer in
+    let e : w.written.to ≡ at + (w.written.to - at) = omega (arith, w.ensures.wrote.onward) in (
       w.ensures.wrote.within,
       subst (λ (n : ℕ). Appends was is (take n bytes)) (sym e)
-          (subst (Appends was is) (sym (take-add at (w.result.to - at) bytes))
-          (Appends-trans was (g.W.Write.contents c.loop-at.writer) is _ _ c.loop-at.invariant.1 (w.ensures.bytes c.if-written.false))),
+          (subst (Appends was is) (sym (take-add at (w.written.to - at) bytes))
+          (Appends-trans was (g.W.Write.contents c.loop-at.writer) is _ _ c.loop-at.invariant.1 w.ensures.bytes)),
     )

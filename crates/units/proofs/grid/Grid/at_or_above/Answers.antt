@@ -1,11 +1,7 @@
 -- `units::grid::Grid::at_or_above` meets its contract: the lowest from where the loop stands is the lowest from the
 -- price.
-use mathlib.Core.Path.{◌≡◌, refl, sym, ap, ◌∙◌}
-use Prim.Native.Nat.{◌+◌, ◌-◌}
-use native.Mathlib.Omega.{arith}
-use borrow.Author.Rules.{rules}
+use Rattle.std.proofs.Common.{sym, ap, ◌∙◌, arith}
 use Rattle.units.specs.Units.{cents}
-use Rattle.units.specs.Grid.{lowest_on}
 use Rattle.units.specs.GridLaws.{lowest_here, lowest_past, lowest_none}
 use Rattle.units.proofs.grid.Grid.at_or_above.Goals as goal
 
@@ -15,18 +11,17 @@ returns-then-on c =
     let on = sym c.on.ensures ∙ c.if-on.true in
     ap cents (sym (c.loop-tried.invariant ∙ lowest_here _ _ _ (omega (arith, c.loop-tried-test.true)) on))
 
--- it is not, and it was the last
-pub returns-then-tried-top : goal.returns-then-tried-top
-returns-then-tried-top c =
-    let last = c.if-tried-top.true in
-    let off = sym c.on.ensures ∙ c.if-on.false in
-    ap cents (sym (c.loop-tried.invariant ∙ (lowest_past _ _ _ (omega (arith, c.loop-tried-test.true)) off ∙ lowest_none _ _ _ (omega arith))))
-
 -- it is not, and the next is tried
 pub loop-tried-preserved : goal.loop-tried-preserved
 loop-tried-preserved c =
     let off = sym c.on.ensures ∙ c.if-on.false in
     c.loop-tried.invariant ∙ lowest_past _ _ _ (omega (arith, c.loop-tried-test.true)) off
+
+-- it is not, and it was the last
+pub returns-else-on : goal.returns-else-on
+returns-else-on c =
+    let off = sym c.on.ensures ∙ c.if-on.false in
+    ap cents (sym (c.loop-tried.invariant ∙ (lowest_past _ _ _ (omega (arith, c.loop-tried-test.true)) off ∙ lowest_none _ _ _ (omega arith))))
 
 -- the first is beyond the last
 pub returns : goal.returns

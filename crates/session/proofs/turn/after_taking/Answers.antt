@@ -1,6 +1,0 @@
--- `session::turn::after_taking` meets its contract: the lanes and the tallies are what `taken` and `count` ensure.
-use Rattle.session.specs.TurnLaws.{taking_is}
-use Rattle.session.proofs.turn.after_taking.Goals as goal
-
-pub returns : goal.returns
-returns c = taking_is _ _ _ _ c.taken-fewer.ensures c.count-counted.ensures
