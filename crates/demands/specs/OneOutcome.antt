@@ -172,6 +172,7 @@ use Rattle.session.proofs.Session.tally_of.Reads as session_tally_of
 use Rattle.replay.proofs.tallying.tally_lines.Reads as replay_tally_lines
 use Rattle.window.proofs.is_short.Reads as window_is_short
 use Rattle.window.proofs.program.tell.Reads as window_tell
+use Rattle.window.proofs.program.tell_byte.Reads as window_tell_byte
 use Rattle.window.proofs.program.status_after.Reads as window_status_after
 use Rattle.window.proofs.program.status_of.Reads as window_status_of
 use Rattle.window.proofs.program.tell_line.Reads as window_tell_line
@@ -833,6 +834,9 @@ one_window_is_short κs a z z' e e' = same
 
 pub one_window_tell : OneResult window_tell.Post
 one_window_tell κs a z z' e e' p q = refl
+
+pub one_window_tell_byte : OneResult window_tell_byte.Post
+one_window_tell_byte κs a z z' e e' p q = refl
 
 pub one_window_status_after : OneResult window_status_after.Post
 one_window_status_after κs a z z' e e' p q = bytes_differ z z' (same p q)

@@ -176,8 +176,8 @@ module _ {p : Place} {numbers window out : List ℕ} {at from to : ℕ} {more : 
           rw (read_behind on_hand (omega (arith, w.within, w.window_long_lem)) g, empty, none)
           (subst (λ (s : Standing). CameTo (filled [] false s)) is_made (came_to_end (w.came goes) (sym next_is ∙ e)))
 
-      pub turn_reads : 0 < turns → Writing d.place next_numbers next lent d.at 0 f.to f.more code status (turns - 1)
-      turn_reads h = record {
+      pub turn_reads : 0 < turns → {told : ℕ} → (Stopped told → ⊥) → Writing d.place next_numbers next lent d.at 0 f.to f.more code told (turns - 1)
+      turn_reads h on = record {
         numbers_long = same;
         window_long_lem = g.long ∙ w.window_long_lem;
         out_long = lent_long;
@@ -186,7 +186,7 @@ module _ {p : Place} {numbers window out : List ℕ} {at from to : ℕ} {more : 
         within = omega (arith, g.most, g.long, w.window_long_lem);
         bounded = omega (arith, w.bounded, few_lines, w.within);
         came = λ _. came_on f.more refl;
-        stopped = λ stop. absurd (omega arith);
+        stopped = λ stop. absurd (on stop);
       }
 
       -- or cannot read it

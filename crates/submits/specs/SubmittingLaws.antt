@@ -141,9 +141,9 @@ module _ {p : Place} {held window out : List ℕ} {at from to : ℕ} {more : Boo
           (λ stop. absurd (not stop))
 
       -- the sheet is read on
-      pub turn_reads : {next : List ℕ} {f : Filled} → Refilled window d.from to 0 next f →
-          Submitting d.place kept next lent d.at 0 f.to f.more d.told status (turns - 1)
-      turn_reads {next} {f} g =
+      pub turn_reads : {next : List ℕ} {f : Filled} → Refilled window d.from to 0 next f → {told : ℕ} → (Stopped told → ⊥) →
+          Submitting d.place kept next lent d.at 0 f.to f.more d.told told (turns - 1)
+      turn_reads {next} {f} g not =
           let c = sent_on none goes in
           let part : List ℕ = drop (to - d.from) (take f.to next) in
           let hand : take f.to next ≡ drop d.from (take to window) ++ part = read_behind on_hand (omega (arith, w.within, w.window_long_lem)) g in
@@ -159,7 +159,7 @@ module _ {p : Place} {held window out : List ℕ} {at from to : ℕ} {more : Boo
                 ∙ ap (λ (l : List ℕ). all_before c.orders (told d.place.line (begun_of d.place kept) l))
                 (sym (append_assoc (drop d.from (take to window)) part rest) ∙ ap (λ (l : List ℕ). l ++ rest) (sym hand)));
           })
-          (λ stop. absurd (omega arith))
+          (λ stop. absurd (not stop))
 
       -- the sheet has come to its end
       pub turn_ends :

@@ -97,7 +97,7 @@ impl Write for Shown {
 const WORD_MOST: usize = 6;
 
 // Tells one byte. It is taken whole or not at all, so what was interrupted is tried again.
-fn tell_byte(byte: u8) {
+pub fn tell_byte(byte: u8) {
     for _ in 0..TELLS {
         if io::write_all(STATUS_FILENO, &[byte]) {
             return;
@@ -128,14 +128,16 @@ pub fn status_of(well: bool) -> Status
     if well { Status::Ended } else { Status::Refused }
 }
 
-// Tells a refused line on standard error: a word with the space behind it comes first.
+// Tells the refused line, where there is one, on standard error: a word with the space behind it comes first.
 pub fn tell_line(rt: &HostRuntime, what: &[u8], code: u32, line: u64)
     requires { length what.now ≤ word_most }
 {
-    let mut told = [0u8; WORD_MOST + LONGEST_BEHIND];
-    let end = refusal_line(what, code, line, &mut told);
-    let mut errors = rt.stderr();
-    write_out(&mut errors, &told[..end]);
+    if code > 0 {
+        let mut told = [0u8; WORD_MOST + LONGEST_BEHIND];
+        let end = refusal_line(what, code, line, &mut told);
+        let mut errors = rt.stderr();
+        write_out(&mut errors, &told[..end]);
+    }
 }
 
 // Writes out the first bytes of the output, up to a place, on standard output.

@@ -17,7 +17,9 @@ refill-requires-clause-from_le_to c = (fits_window c.loop-turns.invariant c.insc
 pub loop-turns-preserved-in-Ok : goal.loop-turns-preserved-in-Ok
 loop-turns-preserved-in-Ok c =
     let going : c.loop-turns.status ≡ Going = search rules in
-    turn_reads c.loop-turns.invariant c.inscribe-done.ensures (search rules) (ap status_byte going) (ap next_of c.in-Read.is) c.in-Ok.ensures.refilled c.loop-turns-test.true
+    let goes : status_byte c.loop-turns.status ≡ 0 = ap status_byte going in
+    turn_reads c.loop-turns.invariant c.inscribe-done.ensures (search rules) goes (ap next_of c.in-Read.is) c.in-Ok.ensures.refilled c.loop-turns-test.true
+    (λ stop. absurd (omega (arith, goes)))
 
 pub loop-turns-preserved-in-Err : goal.loop-turns-preserved-in-Err
 loop-turns-preserved-in-Err c =

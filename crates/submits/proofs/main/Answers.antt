@@ -23,7 +23,9 @@ loop-turns-preserved-then-at-lt-MOST_BYTES c =
 pub loop-turns-preserved-in-Ok : goal.loop-turns-preserved-in-Ok
 loop-turns-preserved-in-Ok c =
     let going : c.loop-turns.status ≡ Going = search rules in
-    turn_reads c.loop-turns.invariant c.send-sent.ensures c.loop-turns-test.true (ap status_byte going) (sym c.is_err.ensures.value ∙ c.if-is_err.false) c.in-Ok.ensures.refilled
+    let goes : status_byte c.loop-turns.status ≡ 0 = ap status_byte going in
+    turn_reads c.loop-turns.invariant c.send-sent.ensures c.loop-turns-test.true goes (sym c.is_err.ensures.value ∙ c.if-is_err.false) c.in-Ok.ensures.refilled
+    (λ stop. absurd (omega (arith, goes)))
 
 pub loop-turns-preserved : goal.loop-turns-preserved
 loop-turns-preserved c =
