@@ -1,6 +1,6 @@
 // The rows that an order may trade with, gathered: each is read once, and every price, and every order at a price, is
 // then looked for among those gathered alone.
-ghost use Rattle.std.specs.Prelude.{◌≡◌, ◌+◌, ◌*◌, ◌≤◌, ◌<◌, length};
+ghost use Rattle.std.specs.Prelude.{◌≡◌, ◌+◌, ◌*◌, ◌≤◌, ◌<◌};
 ghost use Rattle.units.specs.Units.{most32};
 ghost use Rattle.units.specs.Sums.{sum_to};
 ghost use Rattle.units.specs.Picked.{keep, same};

@@ -1,12 +1,11 @@
 // What an incoming order makes of the rows.
-ghost use Rattle.std.specs.Prelude.{◌≡◌, ◌*◌, ◌-◌, min, length};
+ghost use Rattle.std.specs.Prelude.{◌≡◌, ◌-◌, min};
 ghost use Rattle.units.specs.Places.{at, table};
 ghost use Rattle.rows.specs.Rows.{rows};
 ghost use Rattle.book.specs.Lent.{book_in};
 ghost use Rattle.book.specs.Trading.{traded, after_trade, trade_written};
 ghost use Rattle.book.specs.Answers.{traded_of};
 ghost use Rattle.book.specs.Fit.{FitBook};
-ghost use Rattle.book.specs.Records.{fields};
 
 use crate::{Book, Records};
 use rows::passes::resting_within;

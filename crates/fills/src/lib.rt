@@ -3,7 +3,7 @@
 
 pub mod on_row;
 
-ghost use Rattle.std.specs.Prelude.{◌≡◌, List, ℕ, ◌*◌, ◌<◌};
+ghost use Rattle.std.specs.Prelude.{◌≡◌, List, ℕ, ◌<◌};
 ghost use Rattle.rows.specs.Rows.{rows};
 ghost use Rattle.book.specs.Fills.{fill_at, stored, Fits};
 ghost use Rattle.book.specs.Lent.{book_in};

@@ -15,13 +15,10 @@ use Rattle.entry.specs.Numbers.{entry_numbers}
 use Rattle.lanes.specs.declared.Lanes.{Lanes}
 use Rattle.lanes.specs.Ring.{depth, all_entries, entry_of, number_of, entry_at, lane_of, heads, lens, head_of, len_of, slot, put, put_all, joined, taken}
 
--- the heads and lengths of all lanes, and lane t's
+-- the heads of all lanes, and the head of lane t
 module _ (l : Lanes) (t : ℕ) where
   pub head_at : head_of l t ≡ at (heads l) t
   head_at = sym (get_or-map (λ x. x.head) l.lanes t (lane_of 0 0))
-
-  pub len_at : len_of l t ≡ at (lens l) t
-  len_at = sym (get_or-map (λ x. x.len) l.lanes t (lane_of 0 0))
 
 -- where n more wait in lane t, no head moves, and lane t alone is longer
 module _ (l : Lanes) (t n : ℕ) where

@@ -1,5 +1,5 @@
 // The match of an opening at a price.
-ghost use Rattle.std.specs.Prelude.{◌≡◌, ◌*◌, ◌≤◌, min, max, length};
+ghost use Rattle.std.specs.Prelude.{◌≡◌, ◌≤◌, min, max};
 ghost use Rattle.units.specs.Lent.{found};
 ghost use Rattle.units.specs.Places.{table};
 ghost use Rattle.units.specs.Units.{most32};
@@ -7,7 +7,6 @@ ghost use Rattle.rows.specs.Rows.{rows};
 ghost use Rattle.book.specs.Book.{within_bound};
 ghost use Rattle.book.specs.Lent.{book_in};
 ghost use Rattle.book.specs.Fit.{FitBook};
-ghost use Rattle.book.specs.Records.{fields};
 ghost use Rattle.opening.specs.Opening.{both_fill, matched, after_opening, opening_written};
 ghost use Rattle.opening.specs.Answers.{matched_of};
 

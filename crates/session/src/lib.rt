@@ -17,7 +17,7 @@ ghost use Rattle.session.specs.Sound.{Sound};
 
 use crate::settings::started;
 use dealing::Series;
-use entry::refusal::{Refusal, TurnDown};
+use entry::refusal::TurnDown;
 use entry::{Away, Terms};
 use judge::outcome::Disposition;
 use lanes::Lanes;

@@ -6,7 +6,7 @@
 // one byte: `0` the sheet ended, `1` it was refused, `2` a file could not be opened, read or written.
 #![tactic(auto)]
 
-ghost use Rattle.std.specs.Prelude.{◌≡◌, ◌+◌, ◌≤◌, length};
+ghost use Rattle.std.specs.Prelude.{◌+◌, ◌≤◌, length};
 ghost use Rattle.tape.specs.Leads.{encode_all};
 ghost use Rattle.tape.specs.Depth.{most_bytes};
 ghost use Rattle.window.specs.Refusal.{Lays};

@@ -1,5 +1,5 @@
 // Bytes written to a file until all of them are taken.
-ghost use Rattle.std.specs.Prelude.{◌≡◌, true, ◌-◌, ◌≤◌, ◌<◌, IfSome, length, take, drop};
+ghost use Rattle.std.specs.Prelude.{◌≡◌, true, ◌-◌, ◌<◌, IfSome, length, take, drop};
 ghost use Rattle.std.specs.Io.KnownBytes.{Appends};
 ghost use Rattle.window.specs.Writing.{Wrote};
 
