@@ -8,8 +8,8 @@ use native.Mathlib.Omega.{arith}
 use Rattle.units.specs.Tests.{and_holds, holds_not_fails}
 use Rattle.numeral.specs.declared.Refusal as number
 use Rattle.numeral.specs.declared.Refusal.TheVariants as numbered
-use Rattle.numeral.specs.Number.{number_at}
-use Rattle.numeral.specs.Cases.{below}
+use Rattle.numeral.specs.Number.{refusal_number as number_of, number_at}
+use Rattle.numeral.specs.Cases.{below, numbers_differ}
 use Rattle.numeral.specs.Laws.{place}
 use Rattle.numeral.specs.Window.{answer, is_read, is_refused}
 use Rattle.entry.specs.Numbers.{entry_numbers, bulk, from1to}
@@ -18,11 +18,16 @@ use Rattle.tape.specs.declared.Event.{Event}
 use Rattle.tape.specs.declared.Event.TheVariants.{Settings, Away, Submit, Turn, Open}
 use Rattle.tape.specs.declared.Refusal.{Refusal}
 use Rattle.tape.specs.declared.Refusal.TheVariants.{Number, NoSuchEvent, NoSuchCount}
+use Rattle.tape.specs.declared.Refused.{Refused}
 use Rattle.tape.specs.Refusal.{refusal_number}
 use Rattle.tape.specs.Tape.{Reading, refusal_at, Form, whole, bad, more, numbers, settings_numbers, settings_of, settings, away_of, away, entries, submit, kinds, form_in, form_of, event, reading, event_at}
 use Rattle.tape.specs.Kinds.{Each, all, ◌also◌, NoneHas, each_or_none, none_has}
 use Rattle.tape.specs.Steps.{entries_bad, entries_several}
-use Rattle.tape.specs.TapeLaws.{refused_read, refusal_same, on_tape, past_tape, end_refused}
+use Rattle.tape.specs.TapeLaws.{refused_read, refusal_same, on_tape, past_tape, end_refused, refused_place}
+
+-- the event at a place is refused by a number, with the place of the bad number
+abbrev pub RefusedBy : List ℕ → ℕ → ℕ → ℕ → Type 0
+RefusedBy s q code p = (r : Refused) × (event_at s q ≡ Err r) × (refusal_number r.why ≡ code) × (r.place ≡ p)
 
 -- ---- the cases
 
@@ -194,10 +199,10 @@ none_known kind out = (
 read_on_tape : (s : List ℕ) (at v next : ℕ) → number_at s at ≡ Ok (v, next) → at < length s
 read_on_tape s at v next r = let m = place s at v next r in omega (arith, m.0, m.1)
 
--- 33 is another event number, given at its place
-pub exactly_33 : (s : List ℕ) (at p : ℕ) → (event_at s at ≡ Err (refusal_at NoSuchEvent p)) ↔ OtherEvent s at p
+-- no such event is another event number, given at its place
+pub exactly_event : (s : List ℕ) (at p : ℕ) → (event_at s at ≡ Err (refusal_at NoSuchEvent p)) ↔ OtherEvent s at p
 unfolding reading event form_of
-exactly_33 s at p = (λ q. told (why s at NoSuchEvent p q) refl, gives)
+exactly_event s at p = (λ q. told (why s at NoSuchEvent p q) refl, gives)
   where
     told : {w : Refusal} → Why s at p w → w ≡ NoSuchEvent → OtherEvent s at p
     told (bytes r) e = absurd (cc)
@@ -208,10 +213,10 @@ exactly_33 s at p = (λ q. told (why s at NoSuchEvent p q) refl, gives)
     gives o = on_tape s at (read_on_tape s at o.kind o.next o.read)
         ∙ rw (o.here, o.read) (ap (λ form. reading form s at o.next) (none_has kinds o.kind (none_known o.kind o.none)))
 
--- 34 is a count not 1 to 20, given at its place
-pub exactly_34 : (s : List ℕ) (at p : ℕ) → (event_at s at ≡ Err (refusal_at NoSuchCount p)) ↔ BadCount s at p
+-- no such count is one not 1 to 20, given at its place
+pub exactly_count : (s : List ℕ) (at p : ℕ) → (event_at s at ≡ Err (refusal_at NoSuchCount p)) ↔ BadCount s at p
 unfolding reading event form_of form_in submit
-exactly_34 s at p = (λ q. told (why s at NoSuchCount p q) refl, gives)
+exactly_count s at p = (λ q. told (why s at NoSuchCount p q) refl, gives)
   where
     told : {w : Refusal} → Why s at p w → w ≡ NoSuchCount → BadCount s at p
     told (bytes r) e = absurd (cc)
@@ -223,11 +228,72 @@ exactly_34 s at p = (λ q. told (why s at NoSuchCount p q) refl, gives)
         ∙ rw (c.submits, c.of_tenant, c.read)
         (ap (λ form. reading form s p c.next) (outside_34 s NoSuchCount p c.tenant c.count c.outside))
 
--- any other refusal is that of a number's bytes, at the number's place (`exactly`, of numerals, says which of 30 to 32)
-pub by_number : (s : List ℕ) (at : ℕ) (k : number.Refusal) (p : ℕ) → event_at s at ≡ Err (refusal_at (Number k) p) → number_at s p ≡ Err k
-by_number s at k p q = told (why s at (Number k) p q) refl
+-- any other refusal is that of a number's bytes, at the number's place
+pub by_bytes_alone : (s : List ℕ) (at : ℕ) (k : number.Refusal) (p : ℕ) → event_at s at ≡ Err (refusal_at (Number k) p) → number_at s p ≡ Err k
+by_bytes_alone s at k p q = told (why s at (Number k) p q) refl
   where
     told : {w : Refusal} → Why s at p w → w ≡ Number k → number_at s p ≡ Err k
     told (bytes {k = j} r) e = let same : j ≡ k = cc in rw same at r
     told (other o) e = absurd (cc)
     told (counts c) e = absurd (cc)
+
+-- ---- by their numbers
+
+-- a number of 30 to 32 is that of a number's bytes
+number_low : (k : number.Refusal) → number_of k < 33
+number_low numbered.CutShort = omega arith
+number_low numbered.Padded = omega arith
+number_low numbered.TooLarge = omega arith
+
+-- each refusal has a number of its own
+pub refusal_one : (a b : Refusal) → refusal_number a ≡ refusal_number b → a ≡ b
+refusal_one (Number j) (Number k) e = ap Number (numbers_differ j k e)
+refusal_one (Number j) NoSuchEvent e = absurd (omega (arith, number_low j))
+refusal_one (Number j) NoSuchCount e = absurd (omega (arith, number_low j))
+refusal_one NoSuchEvent (Number k) e = absurd (omega (arith, number_low k))
+refusal_one NoSuchEvent NoSuchEvent e = refl
+refusal_one NoSuchEvent NoSuchCount e = absurd (omega arith)
+refusal_one NoSuchCount (Number k) e = absurd (omega (arith, number_low k))
+refusal_one NoSuchCount NoSuchEvent e = absurd (omega arith)
+refusal_one NoSuchCount NoSuchCount e = refl
+
+-- so it is refused by that number, at that place, exactly if it is refused so
+by_its_number : (s : List ℕ) (at : ℕ) (w : Refusal) (p : ℕ) → RefusedBy s at (refusal_number w) p ↔ (event_at s at ≡ Err (refusal_at w p))
+by_its_number s at w p = (
+  (λ (r, is, code, here). let same : r.why ≡ w = refusal_one r.why w code in is ∙ rw (← same, ← here) refl),
+  (λ is. (refusal_at w p, is, refl, refl)),
+)
+
+-- 33 is another event number, given at its place
+pub exactly_33 : (s : List ℕ) (at p : ℕ) → RefusedBy s at 33 p ↔ OtherEvent s at p
+exactly_33 s at p =
+    let told = by_its_number s at NoSuchEvent p in
+    let is = exactly_event s at p in
+    ((λ by. is.0 (told.0 by)), (λ o. told.1 (is.1 o)))
+
+-- 34 is a count not 1 to 20, given at its place
+pub exactly_34 : (s : List ℕ) (at p : ℕ) → RefusedBy s at 34 p ↔ BadCount s at p
+exactly_34 s at p =
+    let told = by_its_number s at NoSuchCount p in
+    let is = exactly_count s at p in
+    ((λ by. is.0 (told.0 by)), (λ o. told.1 (is.1 o)))
+
+-- any other refusal is that of a number's bytes, by its number and at its place (`exactly`, of numerals, says which of
+-- 30 to 32)
+pub by_number : (s : List ℕ) (at code p : ℕ) → RefusedBy s at code p → code < 33 → (k : number.Refusal) × (number_at s p ≡ Err k) × (number_of k ≡ code)
+by_number s at code p (r, is, by, here) low = go r.why refl
+  where
+    go : (why : Refusal) → r.why ≡ why → (k : number.Refusal) × (number_at s p ≡ Err k) × (number_of k ≡ code)
+    go (Number k) e =
+        let so : event_at s at ≡ Err (refusal_at (Number k) p) = is ∙ rw (← e, ← here) refl in
+        (k, by_bytes_alone s at k p so, sym (ap refusal_number e) ∙ by)
+    go NoSuchEvent e = absurd (omega (arith, ap refusal_number e, by, low))
+    go NoSuchCount e = absurd (omega (arith, ap refusal_number e, by, low))
+
+-- the place of a refusal is that of a number of the event, or the tape's length where the number is missing altogether,
+-- by 30
+pub place_by : (s : List ℕ) (at code p : ℕ) → RefusedBy s at code p → (at ≤ p) × ((p < length s) ⊎ ((p ≡ length s) × (code ≡ 30)))
+place_by s at code p (r, is, by, here) =
+    let so : event_at s at ≡ Err (refusal_at r.why p) = is ∙ rw (← here) refl in
+    let z = refused_place s at r.why p so in
+    (z.0, ⊎_elim inl (λ (end, short). inr (end, sym by ∙ ap refusal_number short)) z.1)

@@ -3,9 +3,8 @@
 use Rattle.std.specs.Prelude.{◌≡◌, ◌↔◌, List, ◌++◌, ℕ, ◌+◌, ◌-◌, ◌≤◌, ◌<◌, length, take, drop, Some, Ok, Err}
 use Rattle.numeral.specs.Laws.{Bytes}
 use Rattle.tape.specs.declared.Event.{Event}
-use Rattle.tape.specs.declared.Refused.{Refused}
-use Rattle.tape.specs.Refusal.{refusal_number as number_of}
 use Rattle.tape.specs.Tape.{event_at, entries_at, entries_of}
+pub use Rattle.tape.specs.Refusals.{RefusedBy}
 use Rattle.tape.specs.Depth.{most_bytes}
 use Rattle.tape.specs.Leads.{encode_all, Fit}
 use Rattle.tape.specs.Spelling.{Spells, numbers_of}
@@ -17,10 +16,6 @@ use Rattle.writer.specs.Rewriting.{rewritten_after}
 -- the reader takes numbers: given their bytes, it reads one event, which ends where they end
 abbrev pub Taken : List ℕ → Type 0
 Taken vs = (e : Event) × (event_at (encode_all vs) 0 ≡ Ok (Some (e, length (encode_all vs))))
-
--- the event at a place is refused by a number, with the place of the bad number
-abbrev pub RefusedBy : List ℕ → ℕ → ℕ → ℕ → Type 0
-RefusedBy s q code p = (r : Refused) × (event_at s q ≡ Err r) × (number_of r.why ≡ code) × (r.place ≡ p)
 
 pub record RoundTrip : Type 0 where
   -- 41 exactly for numbers that are not one event; 40 exactly for an event whose length exceeds the room
