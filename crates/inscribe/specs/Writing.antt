@@ -1,5 +1,5 @@
 -- The program's loop: each turn inscribes what is at hand, then reads the text, writes out what is written, or stops.
-use Rattle.std.specs.Prelude.{◌≡◌, refl, Bool, true, false, List, [], ◌∷◌, ◌++◌, ℕ, ◌+◌, ◌*◌, ◌-◌, ◌≤◌, ◌<◌, length, take, drop, replicate}
+use Rattle.std.specs.Prelude.{◌≡◌, refl, Bool, true, false, eqb, Result, Ok, Err, is_ok, List, [], ◌∷◌, ◌++◌, ℕ, ◌+◌, ◌*◌, ◌-◌, ◌≤◌, ◌<◌, length, take, drop, replicate}
 use Rattle.std.proofs.Common.{sym, ap, subst, ◌∙◌, true≢false, append_assoc, arith, length-take, length-drop, drop_of_length-le, length-take-le}
 use Rattle.std.proofs.lemmas.List.{length-replicate}
 use Rattle.std.proofs.Math.Seq.{length-sets}
@@ -14,7 +14,9 @@ use Rattle.figures.specs.Next.{Read, Write, Stop}
 use Rattle.figures.specs.declared.Inscribed.{Inscribed}
 use Rattle.figures.specs.Reading.{line_start, reader_of}
 use Rattle.figures.specs.Whole.{Inscription, ◌before◌, ending_of}
-use Rattle.figures.specs.Inscribing.{next_of, Inscribing, inscribe_of, CanInscribe, InscribesTo}
+use Rattle.writer.specs.declared.Refusal.{Refusal}
+use Rattle.writer.specs.declared.Refusal.TheVariants.{NoRoom, NotOneEvent}
+use Rattle.figures.specs.Inscribing.{code_of, next_of, Inscribing, inscribe_of, CanInscribe, InscribesTo}
 use Rattle.figures.specs.Running.{output_long, Standing, at_start, made_from, made, filled, emptied, Run, reads, meets_end, writes, stops}
 use Rattle.figures.specs.RunningLaws.{before_twice, leaves_from}
 
@@ -71,9 +73,15 @@ module _ {st : Standing} (c : CameTo st) where
   came_to_stop : {code : ℕ} → (made_from st).next ≡ Stop code → CameToStop (made_from st).reader.place (made st).written code
   came_to_stop e = record { read = c.read ++ []; out = c.out; run = c.goes_on [] _ (λ _. refl) (stops e) }
 
+-- a text is told to have ended well exactly if no number is told of it
+pub ends_well : (how : Result (Unit {0}) Refusal) → is_ok how ≡ eqb (code_of how) 0
+ends_well (Ok _) = refl
+ends_well (Err NoRoom) = refl
+ends_well (Err NotOneEvent) = refl
+
 -- how the program stands before each turn of its loop: the bytes written lie in the output, those at hand in the
 -- window, lines cannot overflow in the turns that are left, and a run has come there, or has stopped with what is to be
--- told
+-- told, by the byte that tells whether this is a refusal
 pub record Writing (p : Place) (numbers window out : List ℕ) (at from to : ℕ) (more : Bool) (code status turns : ℕ) : Type 0 where
   pub numbers_long : length numbers ≡ most_numbers
   pub window_long_lem : length window ≡ window_long
@@ -84,6 +92,7 @@ pub record Writing (p : Place) (numbers window out : List ℕ) (at from to : ℕ
   pub bounded : p.line + window_long * turns ≤ farthest
   pub came : status ≡ going → CameTo (standing p numbers window out at from to more)
   pub stopped : Stopped status → CameToStop p (take at out) code
+  pub ended_by : Stopped status → status ≡ status_of (eqb code 0)
 
 pub writing_starts :
     {p : Place} {window out : List ℕ} {code turns : ℕ} → p ≡ line_start 1 → length window ≡ window_long → length out ≡ output_long → 1 + window_long * turns ≤ farthest →
@@ -98,6 +107,7 @@ writing_starts {p} {window} {out} e long out_long few = record {
   bounded = omega (arith, ap (λ (p : Place). p.line) e);
   came = λ _. came_from_start window out e;
   stopped = λ stop. absurd (omega arith);
+  ended_by = λ stop. absurd (omega arith);
 }
 
 module _ {p : Place} {numbers window out : List ℕ} {at from to : ℕ} {more : Bool} {code status turns : ℕ} (w : Writing p numbers window out at from to more code status turns) where
@@ -187,6 +197,7 @@ module _ {p : Place} {numbers window out : List ℕ} {at from to : ℕ} {more : 
         bounded = omega (arith, w.bounded, few_lines, w.within);
         came = λ _. came_on f.more refl;
         stopped = λ stop. absurd (on stop);
+        ended_by = λ stop. absurd (on stop);
       }
 
       -- or cannot read it
@@ -201,12 +212,14 @@ module _ {p : Place} {numbers window out : List ℕ} {at from to : ℕ} {more : 
         bounded = omega (arith, w.bounded, few_lines, w.within);
         came = λ on. absurd (omega arith);
         stopped = λ stop. absurd (omega arith);
+        ended_by = λ stop. absurd (omega arith);
       }
 
     -- a turn that does not: the output is written out, or the text has stopped
     stays : {now how told : ℕ} → now ≤ output_long → (told ≡ going → CameTo (standing d.place next_numbers window lent now d.from to more)) →
-        (Stopped told → CameToStop d.place (take now lent) how) → 0 < turns → Writing d.place next_numbers window lent now d.from to more how told (turns - 1)
-    stays fits came stopped h = record {
+        (Stopped told → CameToStop d.place (take now lent) how) → (Stopped told → told ≡ status_of (eqb how 0)) → 0 < turns →
+        Writing d.place next_numbers window lent now d.from to more how told (turns - 1)
+    stays fits came stopped ended_by h = record {
       numbers_long = same;
       window_long_lem = w.window_long_lem;
       out_long = lent_long;
@@ -216,15 +229,16 @@ module _ {p : Place} {numbers window out : List ℕ} {at from to : ℕ} {more : 
       bounded = omega (arith, w.bounded, few_lines, w.within);
       came = came;
       stopped = stopped;
+      ended_by = ended_by;
     }
 
     module _ (h : 0 < turns) (goes : status ≡ going) where
       pub turn_writes : next_of d.next ≡ Write → {told : ℕ} → (Stopped told → ⊥) → Writing d.place next_numbers window lent 0 d.from to more code told (turns - 1)
       turn_writes e on =
           stays (omega arith) (λ _. subst (λ (s : Standing). CameTo (emptied s)) is_made (came_writing (w.came goes) (sym next_is ∙ e)))
-          (λ stop. absurd (on stop)) h
+          (λ stop. absurd (on stop)) (λ stop. absurd (on stop)) h
 
-      pub turn_stops : {how told : ℕ} → next_of d.next ≡ Stop how → (well : Bool) → told ≡ status_of well → Writing d.place next_numbers window lent d.at d.from to more how told (turns - 1)
-      turn_stops {how} e well is =
-          stays written_fits (λ on. absurd (omega (arith, stops_status well)))
-          (λ _. subst (λ (s : Standing). CameToStop s.reader.place s.written how) is_made (came_to_stop (w.came goes) (sym next_is ∙ e))) h
+      pub turn_stops : {how told : ℕ} → next_of d.next ≡ Stop how → told ≡ status_of (eqb how 0) → Writing d.place next_numbers window lent d.at d.from to more how told (turns - 1)
+      turn_stops {how} e is =
+          stays written_fits (λ on. absurd (omega (arith, stops_status (eqb how 0))))
+          (λ _. subst (λ (s : Standing). CameToStop s.reader.place s.written how) is_made (came_to_stop (w.came goes) (sym next_is ∙ e))) (λ _. is) h

@@ -1,8 +1,8 @@
 -- The program's loop: each turn sends what is at hand, then reads the sheet, writes out what is written, or stops.
-use Rattle.std.specs.Prelude.{◌≡◌, Bool, false, Result, ℕ, ◌+◌, ◌*◌, ◌≤◌, length, take}
+use Rattle.std.specs.Prelude.{◌≡◌, Bool, false, Result, is_ok, ℕ, ◌+◌, ◌*◌, ◌≤◌, length, take}
 use mathlib.Core.List.{List, [], ◌++◌, flatten}
 use Rattle.window.specs.Window.{window_long}
-use Rattle.window.specs.Program.{going, Stopped}
+use Rattle.window.specs.Program.{going, Stopped, status_of}
 use Rattle.sheet.specs.declared.Order.{Order}
 use Rattle.sheet.specs.declared.Place.{Place}
 use Rattle.sheet.specs.declared.Refused.{Refused}
@@ -39,7 +39,7 @@ farthest = 9223372036854775809
 
 -- how the program stands before each turn of its loop: the bytes written lie in the output, those at hand in the
 -- window and those of a line in their memory, lines cannot overflow in the turns that are left, and it has come there,
--- or has stopped with what is to be told
+-- or has stopped with what is to be told, by the byte that tells whether this is a refusal
 pub record Submitting (p : Place) (held window out : List ℕ) (at from to : ℕ) (more : Bool) (how : Result (Unit {0}) Refused)
     (status turns : ℕ) : Type 0 where
   pub held_long : length held ≡ line_most
@@ -52,3 +52,4 @@ pub record Submitting (p : Place) (held window out : List ℕ) (at from to : ℕ
   pub bounded : p.line + window_long * turns ≤ farthest
   pub came : status ≡ going → CameTo p held window out at from to
   pub stopped : Stopped status → CameToStop out at more how
+  pub ended_by : Stopped status → status ≡ status_of (is_ok how)

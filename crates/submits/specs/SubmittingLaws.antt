@@ -1,5 +1,5 @@
 -- The turns of the program's loop.
-use Rattle.std.specs.Prelude.{◌≡◌, refl, Bool, true, false, Result, Ok, Err, is_err, ℕ, ◌+◌, ◌*◌, ◌-◌, ◌≤◌, ◌<◌, length, take, drop, replicate}
+use Rattle.std.specs.Prelude.{◌≡◌, refl, Bool, true, false, Result, Ok, Err, is_ok, is_err, ℕ, ◌+◌, ◌*◌, ◌-◌, ◌≤◌, ◌<◌, length, take, drop, replicate}
 use Rattle.std.proofs.Common.{sym, ap, ◌∙◌, arith, drop_of_length-le, length-take-le}
 use mathlib.Core.List.{List, [], ◌∷◌, ◌++◌, append_assoc, append-nil, flatten}
 use Rattle.std.proofs.lemmas.List.{length-replicate}
@@ -32,6 +32,12 @@ finish_ending : (how : Result (Unit {0}) Refused) → finished (finished_of how)
 finish_ending (Ok _) = refl
 finish_ending (Err r) = refl
 
+-- a refusal is told as one
+tells_refusal : (how : Result (Unit {0}) Refused) → is_err how ≡ true → refused ≡ status_of (is_ok how)
+unfolding status_of
+tells_refusal (Ok _) e = cc
+tells_refusal (Err r) e = refl
+
 pub submitting_starts :
     {p : Place} {window out : List ℕ} {how : Result (Unit {0}) Refused} {turns : ℕ} → p ≡ line_start 1 → length window ≡ window_long → length out ≡ output_long → 1 + window_long * turns ≤ farthest →
     Submitting p (replicate line_most 0) window out 0 0 0 true how going turns
@@ -47,6 +53,7 @@ submitting_starts {p} {window} {out} e long out_long few = record {
   bounded = omega (arith, ap (λ (p : Place). p.line) e);
   came = λ _. record { read = []; written = []; orders = []; tape = refl; tells = λ rest. rw e };
   stopped = λ stop. absurd (omega arith);
+  ended_by = λ stop. absurd (omega arith);
 }
 
 module _ {p : Place} {held window out : List ℕ} {at from to : ℕ} {more : Bool} {how : Result (Unit {0}) Refused} {status turns : ℕ} (w : Submitting p held window out at from to more how status turns) where
@@ -102,8 +109,8 @@ module _ {p : Place} {held window out : List ℕ} {at from to : ℕ} {more : Boo
     -- how the loop stands after a turn, by what it has come to
     stands : {next : List ℕ} {now first last : ℕ} {goes_on : Bool} {how : Result (Unit {0}) Refused} {told : ℕ} → 0 < turns → length next ≡ window_long → now ≤ output_long → first ≤ last → last ≤ window_long →
         (told ≡ going → CameTo d.place kept next lent now first last) → (Stopped told → CameToStop lent now goes_on how) →
-        Submitting d.place kept next lent now first last goes_on how told (turns - 1)
-    stands h long fits begun within came stopped = record {
+        (Stopped told → told ≡ status_of (is_ok how)) → Submitting d.place kept next lent now first last goes_on how told (turns - 1)
+    stands h long fits begun within came stopped ended_by = record {
       held_long = s.sends.kept_long ∙ w.held_long;
       few = s.sends.good.few;
       window_long_lem = long;
@@ -114,6 +121,7 @@ module _ {p : Place} {held window out : List ℕ} {at from to : ℕ} {more : Boo
       bounded = omega (arith, w.bounded, few_lines, w.within);
       came = came;
       stopped = stopped;
+      ended_by = ended_by;
     }
 
     -- the sheet is refused
@@ -130,6 +138,7 @@ module _ {p : Place} {held window out : List ℕ} {at from to : ℕ} {more : Boo
           tape = tape_then c.written c.orders c.tape;
           tells = λ rest _. c.tells rest ∙ rw (s.sends.stops stop rest);
         })
+        (λ _. tells_refusal d.told stop)
 
     module _ (h : 0 < turns) (goes : status ≡ going) (none : is_err d.told ≡ false) where
       -- what is written is written out
@@ -138,6 +147,7 @@ module _ {p : Place} {held window out : List ℕ} {at from to : ℕ} {more : Boo
           let c = sent_on none goes in
           stands h w.window_long_lem (omega arith) on_hand w.within
           (λ _. record { read = c.read; written = c.written ++ take d.at lent; orders = c.orders; tape = append-nil (c.written ++ take d.at lent) ∙ c.tape; tells = c.tells })
+          (λ stop. absurd (not stop))
           (λ stop. absurd (not stop))
 
       -- the sheet is read on
@@ -160,18 +170,19 @@ module _ {p : Place} {held window out : List ℕ} {at from to : ℕ} {more : Boo
                 (sym (append_assoc (drop d.from (take to window)) part rest) ∙ ap (λ (l : List ℕ). l ++ rest) (sym hand)));
           })
           (λ stop. absurd (not stop))
+          (λ stop. absurd (not stop))
 
       -- the sheet has come to its end
       pub turn_ends :
-          most_bytes ≤ length lent - d.at → more ≡ false → {how : Result (Unit {0}) Refused} → finished_of how ≡ finish_of d.place → (well : Bool) {told : ℕ} → told ≡ status_of well →
+          most_bytes ≤ length lent - d.at → more ≡ false → {how : Result (Unit {0}) Refused} → finished_of how ≡ finish_of d.place → {told : ℕ} → told ≡ status_of (is_ok how) →
           Submitting d.place kept window lent d.at d.from to more how told (turns - 1)
-      turn_ends room last {how} is well e =
+      turn_ends room last {how} is e =
           let c = sent_on none goes in
           let used : d.from ≡ length (take to window) = s.all none (omega (arith, sends_long s.sends)) in
           let gone : drop d.from (take to window) ≡ [] = drop_of_length-le (take to window) {i = d.from} (omega arith) in
           let held_fits : d.place.held ≤ length kept = omega (arith, s.sends.good.few, s.sends.good.room) in
           stands h w.window_long_lem (omega (arith, fits_output, lent_long)) on_hand w.within
-          (λ on. absurd (omega (arith, e, stops_status well)))
+          (λ on. absurd (omega (arith, e, stops_status (is_ok how))))
           (λ _. record {
             read = c.read;
             written = c.written;
@@ -181,3 +192,4 @@ module _ {p : Place} {held window out : List ℕ} {at from to : ℕ} {more : Boo
                 let nothing : rest ≡ [] = end last in
                 c.tells rest ∙ rw (nothing, gone, ← finish_told d.place kept held_fits, ← is, finish_ending how, append-nil c.orders);
           })
+          (λ _. e)

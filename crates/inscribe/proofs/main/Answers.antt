@@ -1,11 +1,11 @@
 -- `inscribe::main` is safe and ends, and each turn of its loop keeps what stands in `Invariants.antt`.
-use Rattle.std.proofs.Common.{◌≡◌, ap, rules, ℕ, arith}
+use Rattle.std.proofs.Common.{◌≡◌, ap, ◌∙◌, rules, ℕ, arith}
 use Rattle.std.proofs.Math.ListN.{length-replicate}
 use Rattle.window.specs.Window.{window_long}
-use Rattle.window.specs.Program.{status_byte}
+use Rattle.window.specs.Program.{status_byte, status_of}
 use Rattle.window.specs.declared.program.Status.TheVariants.{Going}
 use Rattle.figures.specs.Inscribing.{next_of}
-use Rattle.inscribe.specs.Writing.{writing_starts, fits_window, fits_output, turn_reads, turn_fails, turn_writes, turn_stops}
+use Rattle.inscribe.specs.Writing.{ends_well, writing_starts, fits_window, fits_output, turn_reads, turn_fails, turn_writes, turn_stops}
 use Rattle.inscribe.proofs.main.Goals as goal
 
 pub loop-turns-init : goal.loop-turns-init
@@ -37,4 +37,5 @@ loop-turns-preserved-in-Write c =
 pub loop-turns-preserved : goal.loop-turns-preserved
 loop-turns-preserved c =
     let going : c.loop-turns.status ≡ Going = search rules in
-    turn_stops c.loop-turns.invariant c.inscribe-done.ensures (search rules) c.loop-turns-test.true (ap status_byte going) (ap next_of c.in-Stop.is) c.is_ok.result c.status_of-status.ensures
+    turn_stops c.loop-turns.invariant c.inscribe-done.ensures (search rules) c.loop-turns-test.true (ap status_byte going) (ap next_of c.in-Stop.is)
+    (c.status_of-status.ensures ∙ ap status_of (c.is_ok.ensures.value ∙ ends_well _))

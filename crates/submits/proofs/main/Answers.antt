@@ -2,7 +2,7 @@
 use Rattle.std.proofs.Common.{◌≡◌, ℕ, sym, ap, ◌∙◌, arith, rules}
 use Rattle.std.proofs.Math.ListN.{length-replicate}
 use Rattle.window.specs.Window.{window_long}
-use Rattle.window.specs.Program.{status_byte}
+use Rattle.window.specs.Program.{status_byte, status_of}
 use Rattle.window.specs.declared.program.Status.TheVariants.{Going}
 use Rattle.submits.specs.SubmittingLaws.{submitting_starts, lent_long, turn_refused, turn_writes, turn_reads, turn_ends}
 use Rattle.submits.proofs.main.Goals as goal
@@ -31,4 +31,4 @@ pub loop-turns-preserved : goal.loop-turns-preserved
 loop-turns-preserved c =
     let going : c.loop-turns.status ≡ Going = search rules in
     turn_ends c.loop-turns.invariant c.send-sent.ensures c.loop-turns-test.true (ap status_byte going) (sym c.is_err.ensures.value ∙ c.if-is_err.false)
-    (omega (arith, lent_long c.loop-turns.invariant c.send-sent.ensures, c.if-at-lt-MOST_BYTES.false)) c.if-more.false c.finish-told.ensures c.is_ok.result c.status_of-status.ensures
+    (omega (arith, lent_long c.loop-turns.invariant c.send-sent.ensures, c.if-at-lt-MOST_BYTES.false)) c.if-more.false c.finish-told.ensures (c.status_of-status.ensures ∙ ap status_of c.is_ok.ensures.value)
