@@ -11,6 +11,7 @@ use entry::refusal::TurnDown;
 use entry::{Entry, Quotes, Terms};
 
 // Why it is turned down; or the order as judged, which before the opening rests and after it trades within its bound.
+#[tactic(auto, using(entry::specs::Refusals::turn_down_above_0), unfolding(crate::specs::Verdict::verdict, units::specs::Tests::pick))]
 pub fn judge(e: Entry, q: Quotes, t: Terms, s: Standing) -> Result<Judged, TurnDown>
     ensures { judged_of result ≡ verdict e q t s }
 {

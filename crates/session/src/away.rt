@@ -20,6 +20,7 @@ fn too_high(bid: Cents, offer: Cents) -> bool
 
 impl Session {
     // Whether an away is taken, or why it is refused.
+    #[tactic(auto, unfolding(crate::specs::Settings::away_refusal, units::specs::Tests::pick, units::specs::Tests::is_not))]
     fn takes_away(&self, bid: Cents, offer: Cents) -> Result<(), Refusal>
         ensures { code_of result ≡ away_refusal self.now bid offer }
     {

@@ -1,6 +1,6 @@
 -- A line by its fields: what stands behind a space, and what a line has whose fields are right.
-use Rattle.std.specs.Prelude.{◌≡◌, refl, true, List, ℕ, zero, suc, ◌-◌, ◌≤◌, ◌<◌, eqb, length}
-use Rattle.std.proofs.Common.{sym, ◌∙◌, arith}
+use Rattle.std.specs.Prelude.{◌≡◌, refl, Bool, true, false, List, ℕ, zero, suc, ◌-◌, ◌≤◌, ◌<◌, eqb, length}
+use Rattle.std.proofs.Common.{sym, ◌∙◌, eq-eqb, ne_eqb, arith}
 use borrow.Author.Tests.{eqb-true}
 use Rattle.units.specs.Tests.{◌and◌, pick_yes, and_true, not_false}
 use Rattle.units.specs.CaseLaws.{apart, GivenBy, first_given, all_fail}
@@ -76,3 +76,20 @@ module _ (line : List ℕ) where
 
     pub price_right : is_price (kind_field line) (price_field line) ≡ true
     price_right = not_false _ (all_fail wrong_by right 4)
+
+-- whether a price is one: what stands before the point is a number, and two digits stand behind it
+module _ (f : List ℕ) where
+  abbrev front : Bool
+  front = from1to 5 (length (up_to point f)) and all_digits (up_to point f)
+
+  pub dollars_two : front ≡ true → length (behind point f) ≡ 2 → is_dollars f ≡ all_digits (behind point f)
+  unfolding is_dollars ◌and◌
+  dollars_two h two = rw (h, eq-eqb _ _ two) refl
+
+  pub dollars_not_two : front ≡ true → (length (behind point f) ≡ 2 → ⊥) → is_dollars f ≡ false
+  unfolding is_dollars ◌and◌
+  dollars_not_two h not = rw (h, ne_eqb _ _ not) refl
+
+  pub dollars_none : front ≡ false → is_dollars f ≡ false
+  unfolding is_dollars ◌and◌
+  dollars_none h = rw h refl

@@ -94,6 +94,7 @@ fn is_kind(f: &[u8]) -> bool
 }
 
 // Dollars, a point and two digits of cents.
+#[tactic(auto, using(crate::specs::LineLaws::dollars_two, crate::specs::LineLaws::dollars_not_two, crate::specs::LineLaws::dollars_none))]
 fn is_dollars(f: &[u8]) -> bool
     ensures { result ≡ is_dollars f.now }
 {
@@ -120,6 +121,7 @@ fn is_life(f: &[u8]) -> bool
 }
 
 // The first wrong field among kind, price and life.
+#[tactic(auto, unfolding(units::specs::Tests::is_not, units::specs::Tests::pick))]
 fn wrong_terms(line: &[u8]) -> Option<Field>
     ensures { field_number result ≡ first_of 0 (wrong_terms line.now) }
 {

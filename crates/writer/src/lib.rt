@@ -63,6 +63,7 @@ fn lay(numbers: &[u32], buffer: &mut [u8]) -> usize
 // Writes one event, given as its numbers in the tape's order, from the front of the lent memory, and answers the bytes
 // used. Refused, first that applies, with every byte left as found: numbers that are not exactly one event that the
 // reader takes, an event whose exact length exceeds the room. Past the bytes used the memory stays as found, too.
+#[tactic(auto, unfolding(crate::specs::Write::write_refusal, crate::specs::Write::written_of, crate::specs::Write::used_bytes, crate::specs::Write::buffer_after, crate::specs::Refusal::refusal_of, units::specs::Tests::pick, units::specs::Tests::is_not))]
 pub fn write(numbers: &[u32], buffer: &mut [u8]) -> Result<usize, Refusal>
     ensures answer { result ≡ written_of numbers.now (length buffer.old) }
     ensures values { Told numbers.now (length buffer.old) result }
