@@ -5,6 +5,8 @@ use Rattle.std.proofs.lemmas.List.{length-replicate}
 use Rattle.std.proofs.Math.Seq.{length-sets}
 use Rattle.units.specs.Places.{sets_behind}
 use Rattle.tape.specs.Depth.{most_numbers}
+use Rattle.writer.specs.declared.Refusal.{Refusal}
+use Rattle.writer.specs.declared.Refusal.TheVariants.{NoRoom, NotOneEvent}
 use Rattle.window.specs.declared.Filled.{Filled}
 use Rattle.window.specs.Window.{window_long, Refilled}
 use Rattle.window.specs.WindowLaws.{read_behind}
@@ -14,8 +16,6 @@ use Rattle.figures.specs.Next.{Read, Write, Stop}
 use Rattle.figures.specs.declared.Inscribed.{Inscribed}
 use Rattle.figures.specs.Reading.{line_start, reader_of}
 use Rattle.figures.specs.Whole.{Inscription, ◌before◌, ending_of}
-use Rattle.writer.specs.declared.Refusal.{Refusal}
-use Rattle.writer.specs.declared.Refusal.TheVariants.{NoRoom, NotOneEvent}
 use Rattle.figures.specs.Inscribing.{code_of, next_of, Inscribing, inscribe_of, CanInscribe, InscribesTo}
 use Rattle.figures.specs.Running.{output_long, Standing, at_start, made_from, made, filled, emptied, Run, reads, meets_end, writes, stops}
 use Rattle.figures.specs.RunningLaws.{before_twice, leaves_from}

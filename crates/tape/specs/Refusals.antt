@@ -62,6 +62,12 @@ unfolding numbers
 numbers_none zero f = none_whole
 numbers_none (suc n) f = none_more (λ v. numbers_none n (λ vs. f (v ∷ vs)))
 
+-- the number of a refusal by the bytes of a number is 30 to 32
+number_codes : (k : number.Refusal) → (30 ≤ number_of k) × (number_of k ≤ 32)
+number_codes numbered.CutShort = (omega arith, omega arith)
+number_codes numbered.Padded = (omega arith, omega arith)
+number_codes numbered.TooLarge = (omega arith, omega arith)
+
 module _ (s : List ℕ) (why : Refusal) (p : ℕ) where
   -- it is refused by the bytes of a number, at its place
   abbrev pub ByBytes : Type 0
@@ -83,12 +89,7 @@ module _ (s : List ℕ) (why : Refusal) (p : ℕ) where
 
   -- so by 30 to 32
   byte_codes : ByBytes → (30 ≤ refusal_number why) × (refusal_number why ≤ 32)
-  byte_codes (k, e, is) = rw (← e) (go k)
-    where
-      go : (k : number.Refusal) → (30 ≤ refusal_number (Number k)) × (refusal_number (Number k) ≤ 32)
-      go numbered.CutShort = (omega arith, omega arith)
-      go numbered.Padded = (omega arith, omega arith)
-      go numbered.TooLarge = (omega arith, omega arith)
+  byte_codes (k, e, is) = rw (← e) (number_codes k)
 
   -- a count is outside 1 to 20, or inside
   counted : (count : ℕ) → from1to bulk count ≡ false → (count < 1) ⊎ (bulk < count)
@@ -239,21 +240,15 @@ by_bytes_alone s at k p q = told (why s at (Number k) p q) refl
 
 -- ---- by their numbers
 
--- a number of 30 to 32 is that of a number's bytes
-number_low : (k : number.Refusal) → number_of k < 33
-number_low numbered.CutShort = omega arith
-number_low numbered.Padded = omega arith
-number_low numbered.TooLarge = omega arith
-
 -- each refusal has a number of its own
 pub refusal_one : (a b : Refusal) → refusal_number a ≡ refusal_number b → a ≡ b
 refusal_one (Number j) (Number k) e = ap Number (numbers_differ j k e)
-refusal_one (Number j) NoSuchEvent e = absurd (omega (arith, number_low j))
-refusal_one (Number j) NoSuchCount e = absurd (omega (arith, number_low j))
-refusal_one NoSuchEvent (Number k) e = absurd (omega (arith, number_low k))
+refusal_one (Number j) NoSuchEvent e = absurd (omega (arith, number_codes j))
+refusal_one (Number j) NoSuchCount e = absurd (omega (arith, number_codes j))
+refusal_one NoSuchEvent (Number k) e = absurd (omega (arith, number_codes k))
 refusal_one NoSuchEvent NoSuchEvent e = refl
 refusal_one NoSuchEvent NoSuchCount e = absurd (omega arith)
-refusal_one NoSuchCount (Number k) e = absurd (omega (arith, number_low k))
+refusal_one NoSuchCount (Number k) e = absurd (omega (arith, number_codes k))
 refusal_one NoSuchCount NoSuchEvent e = absurd (omega arith)
 refusal_one NoSuchCount NoSuchCount e = refl
 
